@@ -1,0 +1,7 @@
+pub mod Act
+pub mod Operators
+pub mod Told
+pub mod Meaning
+pub mod Inputs
+pub mod Sequential
+pub mod Walk

@@ -1,0 +1,34 @@
+-- The empty text has fault 4 at 0, and no other.
+use Rattle.std.proofs.Common.{◌≡◌, ℕ, ◌+◌, ◌<◌, ◌≤◌, ◌⊎◌, List, [], ◌∷◌, ◌++◌, length, refl, sym, ap, ◌∙◌, inl, inr, arith, lit≤, None, Some}
+use Rattle.script_tree.specs.declared.token.Token.{Token}
+use Rattle.script_tree.specs.declared.tree.Block.{Block, roll-Block}
+use Rattle.script_tree.specs.declared.tree.AppDef.{AppDef}
+use Rattle.script_tree.specs.Spelling.{Tokens, script}
+use Rattle.script_tree.specs.Lexing.{Lexed, lex}
+use Rattle.script_tree.specs.Grammar.{Tree, Placed, GoesOn, IsScript, At, IsFault, Faulty, IsSyntaxFault, max_text}
+
+not_empty : {A : Type 0} (xs : List A) (y : A) (ys : List A) → [] ≡ xs ++ (y ∷ ys) → ⊥
+not_empty [] y ys e = cc
+not_empty (x ∷ xs) y ys e = cc
+
+goes_on : GoesOn []
+goes_on = let tree : Tree = ([], roll-Block (record { statements = [] })) in record { tree = tree; rest = script tree; is = refl }
+
+no_script : IsScript [] → ⊥
+no_script h = not_empty _ _ _ (sym h.is)
+
+nowhere : {place : ℕ} {P : Tokens → Token → Type 0} → At (lex []) place P → ⊥
+unfolding lex
+nowhere {place} at = not_empty at.front (place, at.token) at.rest at.is
+
+only_syntax : (kind place : ℕ) → Faulty [] kind place → (0 ≡ place) × (kind ≡ 4)
+unfolding lex
+only_syntax kind place (inl e) = absurd (cc e)
+only_syntax kind place (inr (inl (k, inl at))) = absurd (nowhere at)
+only_syntax kind place (inr (inl (k, inr h))) = (sym h.0, k)
+only_syntax kind place (inr (inr (k, at))) = absurd (nowhere at)
+
+-- the empty text has fault 4 at 0, and this is its fault
+pub empty_fault : IsFault [] 4 0
+unfolding lex
+empty_fault = inr (lit≤ tt, inr (inl (refl, inr (refl, refl, goes_on, no_script))), λ other at h. let e = only_syntax other at h in inr (e.0, omega (arith, e.1)))

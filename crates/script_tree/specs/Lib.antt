@@ -1,0 +1,9 @@
+pub mod BuiltIns
+pub mod Folds
+pub mod Spelling
+pub mod Lexing
+pub mod Grammar
+pub mod Canonical
+pub mod Marks
+pub mod Rules
+pub mod Small

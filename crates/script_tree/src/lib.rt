@@ -1,0 +1,8 @@
+//! The tree of a script, its tokens, and the definitions of its texts, its canonical text and its
+//! static rules.
+#![tactic(auto)]
+
+pub mod script;
+pub mod small;
+pub mod token;
+pub mod tree;
