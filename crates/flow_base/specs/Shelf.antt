@@ -1,5 +1,5 @@
 -- What a shelf holds, and what its calls do to it.
-use Rattle.std.specs.Prelude.{◌≡◌, ℕ, ◌≤◌, Bool, true, false, IsTrue, List, [], ◌∷◌, ◌++◌, length, take, bytes_eq, if◌then◌else◌, IfOk, option_map, None, Some, Ok, Err, Vec}
+use Rattle.std.specs.Prelude.{◌≡◌, ℕ, ◌≤◌, Bool, true, false, IsTrue, List, [], ◌∷◌, ◌++◌, length, take, bytes_eq, if◌then◌else◌, IfOk, option_map, Some, Ok, Err, Vec}
 use Rattle.std.specs.declared.option.Option.{Option}
 use Rattle.std.specs.declared.result.Result.{Result}
 use Rattle.std.specs.declared.alloc.Global.{Global}

@@ -1,5 +1,5 @@
 -- What a sink has taken.
-use Rattle.std.specs.Prelude.{◌≡◌, ℕ, ◌≤◌, Bool, IsTrue, List, [], ◌++◌, take, Ok, Err}
+use Rattle.std.specs.Prelude.{◌≡◌, ℕ, Bool, IsTrue, List, [], ◌++◌, take, Ok, Err}
 use Rattle.std.specs.declared.result.Result.{Result}
 use Rattle.flow_base.specs.Causes.{Rose}
 

@@ -1,6 +1,8 @@
 //! The base of every layer: values and outcomes, and the outside that a run reads from and writes to.
 #![tactic(auto)]
 
+mod mem_file;
+pub mod mem_shelf;
 pub mod mem_sink;
 pub mod outcome;
 pub mod path;
@@ -10,6 +12,7 @@ pub mod text;
 pub mod value;
 pub mod word;
 
+pub use mem_shelf::MemShelf;
 pub use mem_sink::MemSink;
 pub use outcome::{
     Ended, Ending, Evaluation, Exception, FileOut, Files, Outcome, TaskEnd, TaskEnds,
