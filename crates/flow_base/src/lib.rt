@@ -1,6 +1,8 @@
 //! The base of every layer: values and outcomes, and the outside that a run reads from and writes to.
 #![tactic(auto)]
 
+pub mod host_shelf;
+pub mod host_sink;
 mod mem_file;
 pub mod mem_shelf;
 pub mod mem_sink;
@@ -12,6 +14,8 @@ pub mod text;
 pub mod value;
 pub mod word;
 
+pub use host_shelf::HostShelf;
+pub use host_sink::HostSink;
 pub use mem_shelf::MemShelf;
 pub use mem_sink::MemSink;
 pub use outcome::{

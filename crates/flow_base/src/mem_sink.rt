@@ -1,6 +1,6 @@
 //! A sink in memory.
 
-ghost use Rattle.std.specs.Prelude.{◌≡◌, ◌++◌, ◌-◌, [], min, length, take, true, IfOk};
+ghost use Rattle.std.specs.Prelude.{◌≡◌, ◌++◌, ◌-◌, ◌<◌, ◌≤◌, [], min, length, true, IfOk, IsErr};
 
 use crate::sink::{Failed, Sink};
 use std::alloc::{AllocError, Global};
@@ -51,15 +51,24 @@ impl Sink for MemSink {
 
     ghost state = { λ s. record { taken = s.taken; faults = s.faults } };
 
-    fn write(&mut self, bytes: &[u8]) -> Result<usize, Failed> {
+    /// Takes what it has room for.
+    fn write(&mut self, bytes: &[u8]) -> Result<usize, Failed>
+        ensures fits { length self.old.taken < self.old.room → result ≡ Ok (min (self.old.room - length self.old.taken) (length bytes.now)) }
+        ensures full { self.old.room ≤ length self.old.taken → 0 < length bytes.now → IsErr result }
+        ensures room { self.new.room ≡ self.old.room }
+    {
         if bytes.is_empty() {
             return Ok(0);
         }
-        let count = bytes.len().min(self.room - self.taken.len());
-        if count == 0 || self.taken.extend_from_slice(&bytes[..count]).is_err() {
+        let left = self.room - self.taken.len();
+        if left == 0 {
             self.faults = self.faults.saturating_add(1);
             return Err(Failed);
         }
+        let count = left.min(bytes.len());
+        let Ok(()) = self.taken.extend_from_slice(&bytes[..count]) else {
+            unreachable!()
+        };
         Ok(count)
     }
 }
