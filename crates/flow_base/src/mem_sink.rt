@@ -1,6 +1,8 @@
 //! A sink in memory.
 
 ghost use Rattle.std.specs.Prelude.{◌≡◌, ◌++◌, ◌-◌, ◌<◌, ◌≤◌, [], min, length, true, IfOk, IsErr};
+ghost use Rattle.flow_base.specs.Causes.{HasCause};
+ghost use Rattle.flow_base.specs.Sink.{accepted};
 
 use crate::sink::{Failed, Sink};
 use std::alloc::{AllocError, Global};
@@ -53,6 +55,11 @@ impl Sink for MemSink {
 
     /// Takes what it has room for.
     fn write(&mut self, bytes: &[u8]) -> Result<usize, Failed>
+        ensures taken { self.new.taken ≡ self.old.taken ++ accepted result bytes.now }
+        ensures most { IfOk result (λ n. n ≤ length bytes.now) }
+        ensures least { IfOk result (λ n. 0 < length bytes.now → 0 < n) }
+        ensures empty { length bytes.now ≡ 0 → result ≡ Ok 0 }
+        ensures cause { HasCause self.old.faults self.new.faults result }
         ensures fits { length self.old.taken < self.old.room → result ≡ Ok (min (self.old.room - length self.old.taken) (length bytes.now)) }
         ensures full { self.old.room ≤ length self.old.taken → 0 < length bytes.now → IsErr result }
         ensures room { self.new.room ≡ self.old.room }
