@@ -2,11 +2,10 @@
 #![tactic(auto)]
 
 pub mod report;
-pub mod value;
-pub mod writer;
-
 #[cfg(test)]
 mod tests;
+pub mod value;
+pub mod writer;
 
 pub use report::head;
 pub use writer::Writer;
