@@ -43,7 +43,9 @@ impl<R: Files + Drop> HostShelf<R> {
         ensures { IfOk result (λ bytes. length bytes.items ≤ limit) }
     {
         let mut bytes = Vec::new(self.alloc);
-        File::open(&self.rt, name)?.take(limit).read_to_end(&mut bytes)?;
+        File::open(&self.rt, name)?
+            .take(limit)
+            .read_to_end(&mut bytes)?;
         // No clause of std says that there are no more.
         bytes.truncate(limit as usize);
         Ok(bytes)

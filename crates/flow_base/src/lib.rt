@@ -10,6 +10,8 @@ pub mod outcome;
 pub mod path;
 pub mod shelf;
 pub mod sink;
+#[cfg(test)]
+mod tests;
 pub mod text;
 pub mod value;
 pub mod word;

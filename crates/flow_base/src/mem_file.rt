@@ -127,7 +127,12 @@ fn add_file(files: &mut Vec<MemFile>, name: &str, file: MemFile) -> Result<(), A
 }
 
 /// Gives a name these bytes, all of them safe, in place of what it had.
-pub fn put_file(alloc: Global, files: &mut Vec<MemFile>, name: &str, bytes: &[u8]) -> Result<(), AllocError>
+pub fn put_file(
+    alloc: Global,
+    files: &mut Vec<MemFile>,
+    name: &str,
+    bytes: &[u8],
+) -> Result<(), AllocError>
     ensures ok { OnOk result (Same (put (stands_of files.old.items) name.now (record { held = bytes.now; safe = length bytes.now })) (stands_of files.new.items)) }
     ensures err { OnErr result (files.new.items ≡ files.old.items) }
 {
@@ -163,7 +168,12 @@ impl Model for NotedCall {
 
 impl NotedCall {
     /// A call for a name.
-    pub fn of(alloc: Global, kind: CallKind, name: &str, failed: bool) -> Result<NotedCall, AllocError>
+    pub fn of(
+        alloc: Global,
+        kind: CallKind,
+        name: &str,
+        failed: bool,
+    ) -> Result<NotedCall, AllocError>
         ensures { IfOk result (λ call. call ≡ record { kind = kind; name = name.now; failed = failed }) }
     {
         Ok(NotedCall {

@@ -96,7 +96,8 @@ impl MemShelf {
         ensures ok { OnOk result (self.new ≡ record self.old { calls = self.old.calls ++ record { kind = kind; name = name.now; failed = failed } ∷ [] }) }
         ensures err { OnErr result (self.new ≡ self.old) }
     {
-        self.calls.push(NotedCall::of(self.alloc, kind, name, failed)?)?;
+        self.calls
+            .push(NotedCall::of(self.alloc, kind, name, failed)?)?;
         Ok(())
     }
 

@@ -9,6 +9,7 @@ use crate::value::{Items, Value};
 use sqlite_items::Items as ListOf;
 
 pub type Files = ListOf<FileOut>;
+
 pub type TaskEnds = ListOf<TaskEnd>;
 
 /// Why a body or a task has no value.
