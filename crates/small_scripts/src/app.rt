@@ -59,6 +59,7 @@ fn copy_names(alloc: Global, names: &Names) -> Result<Names, AllocError>
 }
 
 /// The small app that the app is.
+#[tactic(auto, unfolding(script_tree::specs::Small::app_of))]
 fn app(alloc: Global, app: &AppDef) -> Result<Option<SmallApp>, AllocError>
     ensures { IfOk result (IsPartOf app_of app.now) }
 {

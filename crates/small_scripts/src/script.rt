@@ -12,6 +12,7 @@ use std::alloc::{AllocError, Global};
 /// The small script whose tree this is: each app returns a sum of parameters and numbers, and main
 /// calls apps with variables and numbers and prints results. `None` where the tree is no small
 /// script's.
+#[tactic(auto, unfolding(script_tree::specs::Small::tree_of, script_tree::specs::Small::main_of))]
 pub fn small_script(
     alloc: Global,
     apps: &[AppDef],
