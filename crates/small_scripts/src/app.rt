@@ -5,10 +5,10 @@ ghost use Rattle.script_tree.specs.Small.{sum_expr, app_body, app_of};
 ghost use Rattle.small_scripts.specs.Reading.{IsPartOf, total_expr, total_body};
 
 use crate::alone::{sum_alone, term_atom};
-use crate::operand::{operand, plus_operands};
+use crate::operand::{added_operands, operand};
 use flow_base::Names;
 use script_tree::small::{Operand, SmallApp};
-use script_tree::tree::{AppDef, Block, Expr, Name, Statement};
+use script_tree::tree::{AppDef, Block, Expr, Statement};
 use sqlite_items::Items;
 use std::alloc::{AllocError, Global};
 
@@ -32,10 +32,8 @@ fn total_alone(alloc: Global, expr: &Expr) -> Result<Option<Total>, AllocError>
     let Some(first) = operand(alloc, atom)? else {
         return Ok(None);
     };
-    match plus_operands(alloc, sum.others.as_slice())? {
-        Some(others) => Ok(Some(Total { first, others })),
-        None => Ok(None),
-    }
+    let others = added_operands(alloc, sum.others.as_slice())?;
+    Ok(others.map(|others| Total { first, others }))
 }
 
 /// The sum of operands that the body returns, if it is that one statement.
@@ -60,7 +58,7 @@ fn copy_names(alloc: Global, names: &Names) -> Result<Names, AllocError>
 
 /// The small app that the app is.
 #[tactic(auto, unfolding(script_tree::specs::Small::app_of))]
-fn app(alloc: Global, app: &AppDef) -> Result<Option<SmallApp>, AllocError>
+fn small_app(alloc: Global, app: &AppDef) -> Result<Option<SmallApp>, AllocError>
     ensures { IfOk result (IsPartOf app_of app.now) }
 {
     if app.cached || app.join || app.outputs.is_some() {
@@ -83,7 +81,7 @@ pub fn small_apps(alloc: Global, apps: &[AppDef]) -> Result<Option<Items<SmallAp
 {
     let mut small = Items::new(alloc);
     for one in apps {
-        match app(alloc, one)? {
+        match small_app(alloc, one)? {
             Some(app) => small.push(app)?,
             None => return Ok(None),
         }

@@ -6,5 +6,7 @@ mod app;
 mod operand;
 mod script;
 mod statement;
+#[cfg(test)]
+mod tests;
 
 pub use script::small_script;

@@ -22,7 +22,7 @@ pub fn operand(alloc: Global, atom: &Atom) -> Result<Option<Operand>, AllocError
 }
 
 /// The operand that is added, if nothing is taken away and nothing else stands there.
-fn plus_one(alloc: Global, added: &Added) -> Result<Option<Operand>, AllocError>
+fn added_operand(alloc: Global, added: &Added) -> Result<Option<Operand>, AllocError>
     ensures { IfOk result (IsPartOf plus_operand added.now) }
 {
     match (added.op, term_atom(&added.term)) {
@@ -32,12 +32,12 @@ fn plus_one(alloc: Global, added: &Added) -> Result<Option<Operand>, AllocError>
 }
 
 /// The operands that are added.
-pub fn plus_operands(alloc: Global, added: &[Added]) -> Result<Option<Items<Operand>>, AllocError>
+pub fn added_operands(alloc: Global, added: &[Added]) -> Result<Option<Items<Operand>>, AllocError>
     ensures { IfOk result (IsPartOf (map plus_operand) added.now) }
 {
     let mut operands = Items::new(alloc);
     for one in added {
-        match plus_one(alloc, one)? {
+        match added_operand(alloc, one)? {
             Some(operand) => operands.push(operand)?,
             None => return Ok(None),
         }

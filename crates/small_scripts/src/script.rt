@@ -23,8 +23,6 @@ pub fn small_script(
     let Some(apps) = small_apps(alloc, apps)? else {
         return Ok(None);
     };
-    match small_statements(alloc, main.statements.as_slice())? {
-        Some(main) => Ok(Some(SmallScript { apps, main })),
-        None => Ok(None),
-    }
+    let main = small_statements(alloc, main.statements.as_slice())?;
+    Ok(main.map(|main| SmallScript { apps, main }))
 }

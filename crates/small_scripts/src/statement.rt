@@ -30,13 +30,9 @@ fn call_alone(alloc: Global, expr: &Expr) -> Result<Option<AppCall>, AllocError>
     if !call.names.is_empty() {
         return Ok(None);
     }
-    match arguments(alloc, call.arguments.as_slice())? {
-        Some(arguments) => Ok(Some(AppCall {
-            app: call.app.copy(alloc)?,
-            arguments,
-        })),
-        None => Ok(None),
-    }
+    let app = call.app.copy(alloc)?;
+    let arguments = arguments(alloc, call.arguments.as_slice())?;
+    Ok(arguments.map(|arguments| AppCall { app, arguments }))
 }
 
 /// The variable whose result the expression is.
@@ -56,7 +52,10 @@ fn awaited(expr: &Expr) -> Option<&Name>
 }
 
 /// The small statement that the statement is.
-fn statement(alloc: Global, statement: &Statement) -> Result<Option<SmallStatement>, AllocError>
+fn small_statement(
+    alloc: Global,
+    statement: &Statement,
+) -> Result<Option<SmallStatement>, AllocError>
     ensures { IfOk result (IsPartOf statement_of statement.now) }
 {
     match statement {
@@ -87,7 +86,7 @@ pub fn small_statements(
 {
     let mut small = Items::new(alloc);
     for one in statements {
-        match statement(alloc, one)? {
+        match small_statement(alloc, one)? {
             Some(statement) => small.push(statement)?,
             None => return Ok(None),
         }

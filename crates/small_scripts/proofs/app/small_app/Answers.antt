@@ -1,7 +1,7 @@
 use Rattle.std.proofs.Common.{ap, subst, None}
 use Rattle.script_tree.specs.Small.{app_of}
 use Rattle.small_scripts.specs.Reading.{IsPartOf, total_body}
-use Rattle.small_scripts.proofs.app.app.Goals as goal
+use Rattle.small_scripts.proofs.app.small_app.Goals as goal
 
 pub returns-in_default : goal.returns-in_default
 unfolding app_of
