@@ -7,8 +7,8 @@ use Rattle.script_tree.specs.declared.tree.AppDef.{AppDef}
 use Rattle.script_tree.specs.Grammar.{Tree}
 use Rattle.flow_meaning.specs.Sequential.{seq}
 use Rattle.flow_meaning.specs.Evaluations.{no_losses, evaluation, Overflows, IsInRange}
-use Rattle.parsl_engine.specs.declared.evaluate.EvaluateFault.{EvaluateFault}
-use Rattle.parsl_engine.specs.declared.evaluate.EvaluateFault.TheVariants.{NotYet, NoMemory}
+use Rattle.parsl_engine.specs.declared.evaluate.ScriptFault.{ScriptFault}
+use Rattle.parsl_engine.specs.declared.evaluate.ScriptFault.TheVariants.{NotYet, NoMemory}
 use Rattle.parsl_engine.specs.declared.plan.Argument.{Argument}
 use Rattle.parsl_engine.specs.declared.plan.Argument.TheVariants as argument
 use Rattle.parsl_engine.specs.declared.plan.Call.{Call}
@@ -46,7 +46,7 @@ Settles old k t (Some z) new in_range = (in_range ≡ true) × (new ≡ slice_se
 Settles old k t None new in_range = in_range ≡ false
 
 -- the evaluation of a script's tree, or a sum of it leaves 64 bits
-abbrev pub Evaluates : Tree → Result Evaluation EvaluateFault → Type 0
+abbrev pub Evaluates : Tree → Result Evaluation ScriptFault → Type 0
 Evaluates tree (Ok e) = (e ≡ evaluation tree) × IsInRange tree
 Evaluates tree (Err NotYet) = Overflows (seq tree.0 tree.1 no_losses).tasks
 Evaluates tree (Err NoMemory) = Unit {0}

@@ -15,22 +15,22 @@ use script_tree::tree::AppDef;
 use sqlite_items::Items as ListOf;
 use std::alloc::{AllocError, Global};
 
-/// Why a script has no evaluation.
+/// Why a script has no output.
 #[derive(Clone, Copy, Debug, PartialEq, Eq)]
-pub enum EvaluateFault {
-    /// A sum leaves 64 bits.
+pub enum ScriptFault {
+    /// It is no small script, or a sum leaves 64 bits.
     NotYet,
     NoMemory,
 }
 
-impl From<AllocError> for EvaluateFault {
+impl From<AllocError> for ScriptFault {
     ghost use Rattle.std.specs.Prelude.{◌≡◌};
-    ghost use Rattle.parsl_engine.specs.declared.evaluate.EvaluateFault.TheVariants.{NoMemory};
+    ghost use Rattle.parsl_engine.specs.declared.evaluate.ScriptFault.TheVariants.{NoMemory};
 
     ghost from_gives = { λ _ fault. fault ≡ NoMemory };
 
-    fn from(_: AllocError) -> EvaluateFault {
-        EvaluateFault::NoMemory
+    fn from(_: AllocError) -> ScriptFault {
+        ScriptFault::NoMemory
     }
 }
 
@@ -39,7 +39,7 @@ pub fn evaluate(
     alloc: Global,
     apps: &[AppDef],
     script: &SmallScript,
-) -> Result<Evaluation, EvaluateFault>
+) -> Result<Evaluation, ScriptFault>
     requires apps { apps.now ≡ map app_of script.now.apps }
     requires sound { is_sound script.now ≡ true }
     requires few { length script.now.main < 2 ^ 32 }
@@ -48,7 +48,7 @@ pub fn evaluate(
     let Plan { mut tasks, printed } = plan_script(alloc, script)?;
     'tasks: while let Some(k) = first_ready(&tasks) {
         if !settle(alloc, apps, &mut tasks, k)? {
-            return Err(EvaluateFault::NotYet);
+            return Err(ScriptFault::NotYet);
         }
     }
     Ok(Evaluation {

@@ -1,0 +1,9 @@
+-- Why a script has no output.
+use Rattle.app_script.specs.declared.script_text.ParseFault.{ParseFault}
+use Rattle.app_script.specs.declared.script_text.ParseFault.TheVariants as parse
+use Rattle.parsl_engine.specs.declared.evaluate.ScriptFault.{ScriptFault}
+use Rattle.parsl_engine.specs.declared.evaluate.ScriptFault.TheVariants.{NotYet, NoMemory}
+
+abbrev pub fault_of : ParseFault → ScriptFault
+fault_of parse.NotYet = NotYet
+fault_of parse.NoMemory = NoMemory
