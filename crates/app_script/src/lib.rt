@@ -1,0 +1,4 @@
+//! Reads scripts.
+#![tactic(auto)]
+
+mod small_reader;
