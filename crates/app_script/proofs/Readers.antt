@@ -82,7 +82,7 @@ terms-turn given (x ∷ ts) = plus_if (is_symbol s.Plus x) given x ts
 
 -- ---- a turn that isn't the last takes a token
 
-bound : {A B : Type 0} (f : A → Option B) (o : Option A) (y : B) → (o >>= f) ≡ Some y → (x : A) × (o ≡ Some x) × (f x ≡ Some y)
+pub bound : {A B : Type 0} (f : A → Option B) (o : Option A) (y : B) → (o >>= f) ≡ Some y → (x : A) × (o ≡ Some x) × (f x ≡ Some y)
 bound f None y e = absurd (cc e)
 bound f (Some x) y e = (x, refl, e)
 

@@ -241,3 +241,21 @@ print_part ts = do
 
 unfoldable pub statement_at : Tokens → Read SmallStatement
 statement_at ts = if begins_word w.Let ts then let_part ts else print_part ts
+
+-- ---- apps up to `main`, and statements up to `}`
+
+abbrev pub more_apps : List SmallApp → Tokens → Turn (List SmallApp)
+more_apps given ts = do
+  app ← app_at ts
+  Some ((given ++ app.0 ∷ [], true), app.1)
+
+unfoldable pub app_turn : List SmallApp → Tokens → Turn (List SmallApp)
+app_turn given ts = if begins_word w.Main ts then Some ((given, false), drop 1 ts) else more_apps given ts
+
+abbrev pub more_statements : List SmallStatement → Tokens → Turn (List SmallStatement)
+more_statements given ts = do
+  statement ← statement_at ts
+  Some ((given ++ statement.0 ∷ [], true), statement.1)
+
+unfoldable pub statement_turn : List SmallStatement → Tokens → Turn (List SmallStatement)
+statement_turn given ts = if begins s.CloseBlock ts then Some ((given, false), drop 1 ts) else more_statements given ts

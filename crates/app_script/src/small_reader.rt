@@ -1,9 +1,10 @@
 //! Reads a small script from its tokens.
 
-ghost use Rattle.std.specs.Prelude.{◌≡◌, [], if◌then◌else◌, drop};
-ghost use Rattle.app_script.specs.Reading.{Reads, Turns, is_symbol, is_word, begins, begins_word, behind, behind_word, behind_name, name_at, operand_at, names_at, names_from, name_turn, operands_at, operands_from, operand_turn, terms_from, term_turn, head_at, sum_at, body_at, app_at, called_at, call_at, print_at, statement_at};
+ghost use Rattle.std.specs.Prelude.{◌≡◌, [], IfOk, if◌then◌else◌, drop};
+ghost use Rattle.app_script.specs.Reading.{Reads, Turns, is_symbol, is_word, begins, begins_word, behind, behind_word, behind_name, name_at, operand_at, names_at, names_from, name_turn, operands_at, operands_from, operand_turn, terms_from, term_turn, head_at, sum_at, body_at, app_at, called_at, call_at, print_at, statement_at, app_turn, statement_turn};
+ghost use Rattle.app_script.specs.SmallTokens as spelled;
+ghost use Rattle.app_script.specs.Exactly.{Spelled, IsRead, IsTreeOf};
 
-use flow_base::Text;
 use script_tree::small::{Operand, SmallApp, SmallScript, SmallStatement};
 use script_tree::token::{Symbol, Token, Word};
 use script_tree::tree::Name;
@@ -29,6 +30,7 @@ impl From<AllocError> for Stop {
 }
 
 /// The tokens that are left.
+#[derive(Drop)]
 struct SmallReader<'a> {
     alloc: Global,
     rest: &'a [Token],
@@ -332,5 +334,76 @@ impl<'a> SmallReader<'a> {
         }
         self.expect_word(Word::Print)?;
         self.print()
+    }
+
+    /// Adds an app, or takes `main`. Whether it was an app.
+    #[tactic(auto, unfolding(crate::specs::Reading::app_turn))]
+    fn app_or_main(&mut self, apps: &mut Items<SmallApp>) -> Result<bool, Stop>
+        ensures { Turns (app_turn apps.old self.old.rest.now) result apps.new self.new.rest.now }
+    {
+        if self.takes_word(Word::Main) {
+            return Ok(false);
+        }
+        let app = self.app()?;
+        apps.push(app)?;
+        Ok(true)
+    }
+
+    /// The apps and `main`.
+    fn apps(&mut self) -> Result<Items<SmallApp>, Stop>
+        ensures { Spelled spelled.apps self.old.rest.now result self.new.rest.now }
+    {
+        let mut apps = Items::new(self.alloc);
+        while self.app_or_main(&mut apps)? {}
+        Ok(apps)
+    }
+
+    /// Adds a statement, or takes `}`. Whether it was a statement.
+    #[tactic(auto, unfolding(crate::specs::Reading::statement_turn))]
+    fn statement_or_end(&mut self, statements: &mut Items<SmallStatement>) -> Result<bool, Stop>
+        ensures { Turns (statement_turn statements.old self.old.rest.now) result statements.new self.new.rest.now }
+    {
+        if self.takes(Symbol::CloseBlock) {
+            return Ok(false);
+        }
+        let statement = self.statement()?;
+        statements.push(statement)?;
+        Ok(true)
+    }
+
+    /// The statements of `main` and their `}`.
+    fn statements(&mut self) -> Result<Items<SmallStatement>, Stop>
+        ensures { Spelled spelled.statements self.old.rest.now result self.new.rest.now }
+    {
+        let mut statements = Items::new(self.alloc);
+        while self.statement_or_end(&mut statements)? {}
+        Ok(statements)
+    }
+
+    fn script(&mut self) -> Result<SmallScript, Stop>
+        ensures { IsRead self.old.rest.now result }
+    {
+        let apps = self.apps()?;
+        self.expect(Symbol::OpenBlock)?;
+        let main = self.statements()?;
+        if !self.rest.is_empty() {
+            return Err(Stop::NotSmall);
+        }
+        Ok(SmallScript { apps, main })
+    }
+}
+
+/// The small script with these tokens, or `None` where no small script has them.
+pub fn read(alloc: Global, tokens: &[Token]) -> Result<Option<SmallScript>, AllocError>
+    ensures { IfOk result (λ small. IsTreeOf tokens.now small) }
+{
+    let mut reader = SmallReader {
+        alloc,
+        rest: tokens,
+    };
+    match reader.script() {
+        Ok(small) => Ok(Some(small)),
+        Err(Stop::NotSmall) => Ok(None),
+        Err(Stop::NoMemory) => Err(AllocError),
     }
 }
