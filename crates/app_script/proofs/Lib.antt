@@ -1,2 +1,5 @@
 pub mod Readers
+pub mod Scripts
+pub mod SmallFolds
+pub mod SmallSpelling
 pub mod Spelled

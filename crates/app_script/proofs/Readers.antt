@@ -153,3 +153,6 @@ passed_on read whole turn NoMemory more inner rest f h = tt
 
 pub turn-goes_on : {A : Type 0} (turn : Turn A) (more : A) (b : Bool) (rest : Tokens) → turn ≡ Some ((more, b), rest) → b ≡ true → turn ≡ Some ((more, true), rest)
 turn-goes_on turn more b rest e is = rw (← is) e
+
+pub turn-stops : {A : Type 0} (turn : Turn A) (more : A) (b : Bool) (rest : Tokens) → turn ≡ Some ((more, b), rest) → b ≡ false → turn ≡ Some ((more, false), rest)
+turn-stops turn more b rest e is = rw (← is) e

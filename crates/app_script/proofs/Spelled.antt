@@ -80,7 +80,7 @@ statement-again (small.Print variable) rest = refl
 
 -- ---- what is read is spelled so
 
-chosen : {A : Type 0} (b : Bool) (x y z : A) → (if b then x else y) ≡ z → ((b ≡ true) × (x ≡ z)) ⊎ ((b ≡ false) × (y ≡ z))
+pub chosen : {A : Type 0} (b : Bool) (x y z : A) → (if b then x else y) ≡ z → ((b ≡ true) × (x ≡ z)) ⊎ ((b ≡ false) × (y ≡ z))
 chosen true x y z e = inl (refl, e)
 chosen false x y z e = inr (refl, e)
 
@@ -102,12 +102,12 @@ word-spelled k (t.Name j) e = absurd (cc e)
 word-spelled k (t.Number j) e = absurd (cc e)
 word-spelled k (t.Text j) e = absurd (cc e)
 
-begins-spelled : (k : Symbol) (ts : Tokens) → begins k ts ≡ true → ts ≡ t.Symbol k ∷ drop 1 ts
+pub begins-spelled : (k : Symbol) (ts : Tokens) → begins k ts ≡ true → ts ≡ t.Symbol k ∷ drop 1 ts
 unfolding begins
 begins-spelled k [] e = absurd (cc e)
 begins-spelled k (x ∷ ts) e = ap (λ z. z ∷ ts) (symbol-spelled k x e)
 
-begins_word-spelled : (k : Word) (ts : Tokens) → begins_word k ts ≡ true → ts ≡ t.Word k ∷ drop 1 ts
+pub begins_word-spelled : (k : Word) (ts : Tokens) → begins_word k ts ≡ true → ts ≡ t.Word k ∷ drop 1 ts
 unfolding begins_word
 begins_word-spelled k [] e = absurd (cc e)
 begins_word-spelled k (x ∷ ts) e = ap (λ z. z ∷ ts) (word-spelled k x e)
@@ -125,7 +125,7 @@ if_behind : (b : Bool) (ts : Tokens) (y : Unit {0} × Tokens) → behind_if b ts
 if_behind true ts y e = (refl, ap (λ (r : Unit {0} × Tokens). r.1) (same_Some _ y e))
 if_behind false ts y e = absurd (cc e)
 
-behind-spelled : (k : Symbol) (ts : Tokens) (y : Unit {0} × Tokens) → behind k ts ≡ Some y → ts ≡ t.Symbol k ∷ y.1
+pub behind-spelled : (k : Symbol) (ts : Tokens) (y : Unit {0} × Tokens) → behind k ts ≡ Some y → ts ≡ t.Symbol k ∷ y.1
 unfolding behind
 behind-spelled k ts y e = let p = if_behind (begins k ts) ts y e in begins-spelled k ts p.0 ∙ ap (λ z. t.Symbol k ∷ z) p.1
 

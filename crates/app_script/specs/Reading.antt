@@ -244,18 +244,17 @@ statement_at ts = if begins_word w.Let ts then let_part ts else print_part ts
 
 -- ---- apps up to `main`, and statements up to `}`
 
-abbrev pub more_apps : List SmallApp → Tokens → Turn (List SmallApp)
-more_apps given ts = do
-  app ← app_at ts
-  Some ((given ++ app.0 ∷ [], true), app.1)
+abbrev pub more_of : {A : Type 0} → (Tokens → Read A) → List A → Tokens → Turn (List A)
+more_of read given ts = do
+  item ← read ts
+  Some ((given ++ item.0 ∷ [], true), item.1)
+
+-- an item more, or the end
+abbrev pub list_turn : {A : Type 0} → (Tokens → Read A) → Bool → List A → Tokens → Turn (List A)
+list_turn read ends given ts = if ends then Some ((given, false), drop 1 ts) else more_of read given ts
 
 unfoldable pub app_turn : List SmallApp → Tokens → Turn (List SmallApp)
-app_turn given ts = if begins_word w.Main ts then Some ((given, false), drop 1 ts) else more_apps given ts
-
-abbrev pub more_statements : List SmallStatement → Tokens → Turn (List SmallStatement)
-more_statements given ts = do
-  statement ← statement_at ts
-  Some ((given ++ statement.0 ∷ [], true), statement.1)
+app_turn given ts = list_turn app_at (begins_word w.Main ts) given ts
 
 unfoldable pub statement_turn : List SmallStatement → Tokens → Turn (List SmallStatement)
-statement_turn given ts = if begins s.CloseBlock ts then Some ((given, false), drop 1 ts) else more_statements given ts
+statement_turn given ts = list_turn statement_at (begins s.CloseBlock ts) given ts
