@@ -2,3 +2,4 @@
 #![tactic(auto)]
 
 mod small_reader;
+mod small_tree;
