@@ -1,5 +1,6 @@
 //! Reads scripts.
 #![tactic(auto)]
 
+mod small_check;
 mod small_reader;
 mod small_tree;
