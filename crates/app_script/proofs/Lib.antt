@@ -1,5 +1,7 @@
 pub mod Readers
 pub mod Scripts
+pub mod SmallFaults
 pub mod SmallFolds
+pub mod SmallMarks
 pub mod SmallSpelling
 pub mod Spelled

@@ -178,10 +178,17 @@ fn main_is_right(apps: &[SmallApp], main: &[SmallStatement]) -> bool
     true
 }
 
+#[tactic(auto, unfolding(crate::specs::SmallRules::script_is_right))]
+fn script_is_right(small: &SmallScript) -> bool
+    ensures { result ≡ spec.script_is_right small.now }
+{
+    let apps = small.apps.as_slice();
+    apps_are_right(apps) && main_is_right(apps, small.main.as_slice())
+}
+
 /// Whether the tree of a small script breaks no static rule.
 pub fn is_well_formed(small: &SmallScript) -> bool
     ensures { IsTrue result ↔ IsWellFormed (tree_of small.now) }
 {
-    let apps = small.apps.as_slice();
-    apps_are_right(apps) && main_is_right(apps, small.main.as_slice())
+    script_is_right(small)
 }
