@@ -1,0 +1,5 @@
+//! Reads script text.
+#![tactic(auto)]
+
+pub mod lexer;
+mod piece;
