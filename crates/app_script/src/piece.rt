@@ -1,14 +1,16 @@
 //! The piece at the front of a text: a token, or what is wrong there.
 
-ghost use Rattle.std.specs.Prelude.{◌≡◌, ◌<◌, ◌≤◌, ◌^◌, true, length, take, nat_lt, Some, None, if◌then◌else◌, pos, map, All, IfOk};
+ghost use Rattle.std.specs.Prelude.{◌≡◌, ◌<◌, ◌≤◌, ◌^◌, true, length, map, All, IfOk, IfSome};
 ghost use Rattle.std.specs.List.{prefix_len};
+ghost use Rattle.flow_base.specs.TextBytes.{IsTextByte};
 ghost use Rattle.script_tree.specs.Lexing as lexing;
 ghost use Rattle.script_tree.specs.BuiltIns as tables;
 ghost use Rattle.app_script.specs.Pieces as spec;
+ghost use Rattle.app_script.specs.declared.piece.PieceFault.TheVariants.{NoMemory};
 
 use flow_base::Text;
 use script_tree::token::{Symbol, Token, Word};
-use std::alloc::Global;
+use std::alloc::{AllocError, AllocFailed, Global};
 
 /// The kind of a byte that begins no token.
 pub const BYTE_FAULT: u8 = 1;
@@ -75,6 +77,31 @@ pub type Piece = (Token, usize);
 pub enum PieceFault {
     Refused(u8),
     NoMemory,
+}
+
+impl From<AllocError> for PieceFault {
+    ghost from_gives = { λ _ e. e ≡ NoMemory };
+
+    fn from(_: AllocError) -> PieceFault {
+        PieceFault::NoMemory
+    }
+}
+
+impl<T: Drop> From<AllocFailed<T>> for PieceFault {
+    ghost from_gives = { λ _ e. e ≡ NoMemory };
+
+    fn from(_: AllocFailed<T>) -> PieceFault {
+        PieceFault::NoMemory
+    }
+}
+
+/// What stands at the front of a text behind its quote.
+#[derive(Clone, Copy)]
+enum Part {
+    /// The closing quote.
+    End,
+    /// A byte, and how many bytes spell it.
+    Byte(u8, usize),
 }
 
 pub fn is_blank(byte: u8) -> bool
@@ -183,5 +210,103 @@ fn number_of(run: &[u8]) -> Option<i64>
     match run {
         [] | [b'0', _, ..] => None,
         _ => i64::try_from(digits_value(run)?).ok(),
+    }
+}
+
+fn escaped(byte: u8) -> Option<u8>
+    ensures { result ≡ lexing.escaped byte }
+{
+    match byte {
+        b'n' => Some(b'\n'),
+        b'"' | b'\\' => Some(byte),
+        _ => None,
+    }
+}
+
+fn front_part(rest: &[u8]) -> Option<Part>
+    ensures value { result ≡ spec.part rest.now }
+    ensures within { IfSome result (spec.IsPartWithin (length rest.now)) }
+{
+    match rest {
+        [b'"', ..] => Some(Part::End),
+        [b'\\'] => None,
+        [b'\\', escape, ..] => Some(Part::Byte(escaped(*escape)?, 2)),
+        [byte, ..] if is_printable(*byte) => Some(Part::Byte(*byte, 1)),
+        _ => None,
+    }
+}
+
+/// The text up to its closing quote, and how many bytes spell it with the quote.
+fn text_end(alloc: Global, mut rest: &[u8]) -> Result<(Text, usize), PieceFault>
+    requires { length rest.now < 2 ^ 63 }
+    ensures value { spec.IsTextEnd result (lexing.text_end rest.entry.now) }
+    ensures within { IfOk result (λ p. p.1 ≤ length rest.entry.now) }
+{
+    let mut bytes = Vec::new(alloc);
+    let mut len = 0;
+    while let Some(part) = front_part(rest) {
+        match part {
+            Part::End => return Ok((Text::from_bytes(bytes), len + 1)),
+            Part::Byte(byte, taken) => {
+                bytes.push(byte)?;
+                len += taken;
+                rest = &rest[taken..];
+            }
+        }
+    }
+    Err(PieceFault::Refused(TOKEN_FAULT))
+}
+
+fn name_piece(alloc: Global, run: &[u8]) -> Result<Piece, PieceFault>
+    requires { All IsTextByte run.now }
+    ensures { spec.IsPiece result (lexing.name_piece run.now) }
+{
+    if run.len() > MAX_NAME {
+        return Err(PieceFault::Refused(TOKEN_FAULT));
+    }
+    let token = match keyword(run) {
+        Some(word) => Token::Word(word),
+        None => Token::Name(Text::from_bytes(Vec::from_slice(alloc, run)?)),
+    };
+    Ok((token, run.len()))
+}
+
+fn number_piece(run: &[u8]) -> Result<Piece, PieceFault>
+    ensures { spec.IsPiece result (lexing.number_piece run.now) }
+{
+    match number_of(run) {
+        Some(value) => Ok((Token::Number(value), run.len())),
+        None => Err(PieceFault::Refused(NUMBER_FAULT)),
+    }
+}
+
+fn text_piece(alloc: Global, rest: &[u8]) -> Result<Piece, PieceFault>
+    requires { length rest.now < 2 ^ 63 }
+    ensures { spec.IsPiece result (lexing.text_piece (lexing.text_end rest.now)) }
+{
+    let (text, len) = text_end(alloc, rest)?;
+    Ok((Token::Text(text), 1 + len))
+}
+
+fn symbol_piece(text: &[u8]) -> Result<Piece, PieceFault>
+    ensures { spec.IsPiece result (lexing.symbol_piece lexing.symbols text.now) }
+{
+    match symbol(text) {
+        Ok((symbol, len)) => Ok((Token::Symbol(symbol), len)),
+        Err(kind) => Err(PieceFault::Refused(kind)),
+    }
+}
+
+/// The piece at the front of a text that begins with no blank and no comment.
+pub fn front_piece(alloc: Global, text: &[u8]) -> Result<Piece, PieceFault>
+    requires { length text.now < 2 ^ 63 }
+    ensures { spec.IsPiece result (lexing.piece text.now) }
+{
+    match text {
+        [] => Err(PieceFault::Refused(BYTE_FAULT)),
+        [first, ..] if begins_name(*first) => name_piece(alloc, &text[..run_len(text)]),
+        [first, ..] if first.is_ascii_digit() => number_piece(&text[..run_len(text)]),
+        [b'"', rest @ ..] => text_piece(alloc, rest),
+        _ => symbol_piece(text),
     }
 }
