@@ -1,5 +1,7 @@
 pub mod Digits
+pub mod Fronts
 pub mod Gaps
 pub mod PieceSizes
 pub mod Symbols
 pub mod Turns
+pub mod Wholes

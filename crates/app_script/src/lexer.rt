@@ -124,3 +124,90 @@ fn gap(text: &[u8]) -> Result<usize, usize>
         }
     }
 }
+
+impl<'a> Lexer<'a> {
+    /// Reads a text from its first byte.
+    pub fn new(text: &'a [u8]) -> Lexer<'a>
+        requires { length text.now ≤ max_text }
+        ensures { result ≡ record { place = 0; text = text.entry.now } }
+    {
+        Lexer { text, place: 0 }
+    }
+
+    /// The next token with its place, or none at the end of the text.
+    pub fn next(&mut self, alloc: Global) -> Result<Option<PlacedToken>, LexFault>
+        ensures next { spec.IsNext result self.old self.new }
+        ensures shorter { spec.IsShorter result self.old self.new }
+    {
+        match gap(self.text) {
+            Ok(len) => {
+                self.advance(len);
+                self.token(alloc)
+            }
+            Err(len) => Err(LexFault::Refused {
+                kind: BYTE_FAULT,
+                place: self.place + len as u32,
+            }),
+        }
+    }
+
+    fn advance(&mut self, len: usize)
+        requires { len ≤ length self.old.text }
+        ensures { self.new ≡ record { place = self.old.place + len; text = drop len self.old.text } }
+    {
+        self.text = &self.text[len..];
+        self.place += len as u32;
+    }
+
+    /// The token at the front, where no blank and no comment is.
+    fn token(&mut self, alloc: Global) -> Result<Option<PlacedToken>, LexFault>
+        requires { spec.BeginsPiece self.old.text }
+        ensures next { spec.IsNext result self.old self.new }
+        ensures shorter { spec.IsShorter result self.old self.new }
+    {
+        if self.text.is_empty() {
+            return Ok(None);
+        }
+        let place = self.place;
+        match front_piece(alloc, self.text) {
+            Ok((token, len)) => {
+                self.advance(len);
+                Ok(Some(PlacedToken { place, token }))
+            }
+            Err(PieceFault::Refused(kind)) => Err(LexFault::Refused { kind, place }),
+            Err(PieceFault::NoMemory) => Err(LexFault::NoMemory),
+        }
+    }
+}
+
+impl Tokens {
+    fn new(alloc: Global) -> Tokens
+        ensures { (result.tokens ≡ []) × (result.places ≡ []) }
+    {
+        Tokens {
+            tokens: Items::new(alloc),
+            places: Items::new(alloc),
+        }
+    }
+
+    fn push(&mut self, next: PlacedToken) -> Result<(), AllocError>
+        ensures { OnOk result ((self.new.tokens ≡ self.old.tokens ++ next.token ∷ []) × (self.new.places ≡ self.old.places ++ next.place ∷ [])) }
+    {
+        let PlacedToken { place, token } = next;
+        self.tokens.push(token)?;
+        self.places.push(place)
+    }
+}
+
+/// All tokens of a text of at most 1,048,576 bytes.
+pub fn lex(alloc: Global, text: &[u8]) -> Result<Tokens, LexFault>
+    requires { length text.now ≤ max_text }
+    ensures { spec.IsLexed result text.now }
+{
+    let mut lexer = Lexer::new(text);
+    let mut tokens = Tokens::new(alloc);
+    while let Some(next) = lexer.next(alloc)? {
+        tokens.push(next)?;
+    }
+    Ok(tokens)
+}
