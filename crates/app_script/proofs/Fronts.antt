@@ -41,9 +41,10 @@ left_token place text token len old new view begins long is next =
     let now : new ≡ unread (place + len) (drop len text) = next ∙ ap (λ u. unread (u.place + len) (drop len u.text)) (sym view) in
     let some = takes text token len is in
     let short : length (drop len text) < length text = omega (arith, length-drop len text) in
-    let shorter : length new.text < length text = subst (λ u. length u.text < length text) (sym now) short in
-    (ap left (sym view) ∙ front_token place text token len begins_there long is ∙ ap (λ u. with_token place token (left u)) (sym now),
-     subst (λ u. length new.text < length u.text) view shorter)
+    let shorter : length new.text < length text = subst (λ u. length u.text < length text) (sym now) short in (
+      ap left (sym view) ∙ front_token place text token len begins_there long is ∙ ap (λ u. with_token place token (left u)) (sym now),
+      subst (λ u. length new.text < length u.text) view shorter,
+    )
 
 pub left_fault : (place : ℕ) (text : Text) (kind : ℕ) (old : Unread) → unread place text ≡ old → BeginsPiece old.text → 0 < length text → piece text ≡ Err kind → left old ≡ stops_at place kind
 left_fault place text kind old view begins long is = ap left (sym view) ∙ front_fault place text kind (subst (λ u. BeginsPiece u.text) (sym view) begins) long is

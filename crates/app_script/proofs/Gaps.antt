@@ -29,15 +29,17 @@ drop_behind n b bs = let e : 1 + n ≡ suc n = omega arith in rw e refl
 
 comment_passed : (bs : Text) → ends_line (drop (prefix_len is_in_comment bs) bs) ≡ true → IsGap (Ok (1 + prefix_len is_in_comment bs)) (35 ∷ bs)
 comment_passed bs h =
-    let len = prefix_len is_in_comment bs in
-    (omega (arith, prefix_len-le-length is_in_comment bs),
-     λ at. lexed_comment at bs ∙ comment_ends (at + 1 + len) (drop len bs) h ∙ ap (λ place. lexed place (drop len bs)) (behind at len) ∙ ap (lexed (at + (1 + len))) (drop_behind len 35 bs))
+    let len = prefix_len is_in_comment bs in (
+      omega (arith, prefix_len-le-length is_in_comment bs),
+      λ at. lexed_comment at bs ∙ comment_ends (at + 1 + len) (drop len bs) h ∙ ap (λ place. lexed place (drop len bs)) (behind at len) ∙ ap (lexed (at + (1 + len))) (drop_behind len 35 bs),
+    )
 
 comment_stopped : (bs : Text) → ends_line (drop (prefix_len is_in_comment bs) bs) ≡ false → IsGap (Err (1 + prefix_len is_in_comment bs)) (35 ∷ bs)
 comment_stopped bs h =
-    let len = prefix_len is_in_comment bs in
-    (omega (arith, prefix_len-le-length is_in_comment bs),
-     λ at. lexed_comment at bs ∙ comment_stops (at + 1 + len) (drop len bs) h ∙ ap (λ place. stops_at place byte_fault) (behind at len))
+    let len = prefix_len is_in_comment bs in (
+      omega (arith, prefix_len-le-length is_in_comment bs),
+      λ at. lexed_comment at bs ∙ comment_stops (at + 1 + len) (drop len bs) h ∙ ap (λ place. stops_at place byte_fault) (behind at len),
+    )
 
 rest_is : (bs : Text) (n : ℕ) → take (length bs - n) (drop n bs) ≡ drop n bs
 rest_is bs n = take_all (length bs - n) (drop n bs) (omega (arith, length-drop n bs))

@@ -70,9 +70,7 @@ fn comment_len(text: &[u8]) -> usize
     ensures value { result ≡ prefix_len is_in_comment text.now }
     ensures within { result ≤ length text.now }
 {
-    text.iter()
-        .take_while(|byte| is_in_comment(**byte))
-        .count()
+    text.iter().take_while(|byte| is_in_comment(**byte)).count()
 }
 
 fn ends_line(text: &[u8]) -> bool
@@ -211,3 +209,6 @@ pub fn lex(alloc: Global, text: &[u8]) -> Result<Tokens, LexFault>
     }
     Ok(tokens)
 }
+
+#[cfg(test)]
+mod tests;
