@@ -1,12 +1,12 @@
 -- Blanks and comments pass over no token.
-use Rattle.std.proofs.Common.{◌≡◌, ℕ, zero, suc, ◌+◌, ◌-◌, ◌≤◌, Bool, true, false, if◌then◌else◌, nat_eq, List, [], ◌∷◌, length, get_or, take, drop, Result, Ok, Err, refl, ap, sym, subst, ◌∙◌, arith, length-drop}
+use Rattle.std.proofs.Common.{◌≡◌, ℕ, suc, ◌+◌, ◌-◌, ◌≤◌, true, false, if◌then◌else◌, nat_eq, [], ◌∷◌, length, get_or, take, drop, Ok, Err, refl, ap, sym, subst, ◌∙◌, arith, length-drop}
 use Rattle.std.proofs.lemmas.Bool.{false≢true}
 use Rattle.std.proofs.lemmas.Bool.Decides.{nat_tests}
 use Rattle.std.proofs.lemmas.List.{take_all}
 use Rattle.std.proofs.lemmas.List.Sums.{prefix_len-le-length}
 use Rattle.std.specs.List.{prefix_len}
-use Rattle.script_tree.specs.Lexing.{Text, Lexed, is_blank, is_in_comment, after_comment, byte_fault, stops_at}
-use Rattle.app_script.specs.Lexer.{lexed, ends_line, PassesOver, StopsIn, IsGap}
+use Rattle.script_tree.specs.Lexing.{Text, is_blank, is_in_comment, after_comment, byte_fault, stops_at}
+use Rattle.app_script.specs.Lexer.{lexed, ends_line, IsGap}
 use Rattle.app_script.proofs.Turns.{lexed_blank, lexed_comment}
 
 newline_is_blank : (b : ℕ) → nat_eq b 10 ≡ true → is_blank b ≡ true

@@ -1,5 +1,5 @@
 -- A piece takes a byte at least, and no more than there are.
-use Rattle.std.proofs.Common.{◌≡◌, ℕ, zero, suc, ◌+◌, ◌*◌, ◌<◌, ◌≤◌, Bool, true, false, if◌then◌else◌, ◌&&◌, nat_eq, nat_le, nat_lt, List, [], ◌∷◌, length, take, get_or, Option, Some, None, Result, Ok, Err, IfOk, All, pos, refl, sym, subst, arith}
+use Rattle.std.proofs.Common.{◌≡◌, ℕ, suc, ◌+◌, ◌<◌, ◌≤◌, Bool, true, false, if◌then◌else◌, ◌&&◌, nat_eq, nat_le, nat_lt, List, [], ◌∷◌, length, take, get_or, Option, Some, None, Ok, Err, All, pos, refl, sym, subst, arith}
 use Rattle.std.proofs.lemmas.Bool.Decides.{nat_tests}
 use Rattle.std.proofs.lemmas.Bool.{false≢true}
 use Rattle.std.proofs.lemmas.List.{get_or-take}
@@ -9,12 +9,9 @@ use Rattle.std.specs.Char.{is_ascii_digit}
 use Rattle.std.specs.List.{prefix_len, list_all}
 use Rattle.flow_base.specs.TextBytes.{IsTextByte}
 use Rattle.script_tree.specs.BuiltIns.{lookup}
-use Rattle.script_tree.specs.declared.token.Token.{Token}
 use Rattle.script_tree.specs.declared.token.Token.TheVariants as t
 use Rattle.script_tree.specs.declared.token.Symbol.{Symbol}
 use Rattle.script_tree.specs.Lexing.{Text, Piece, keywords, named, token_fault, number_fault, digits_value, begins_name, is_in_name, is_printable, is_number, name_piece, number_piece, text_end, text_escape, text_piece, with_byte, with_escape, escaped, begins_with, symbols, symbol_piece, piece}
-use Rattle.app_script.specs.Pieces.{IsPiece}
-use Rattle.app_script.specs.declared.piece.PieceFault.{PieceFault}
 
 abbrev pub IsWithin : ℕ → Piece → Type 0
 IsWithin n (Ok p) = (1 ≤ p.1) × (p.1 ≤ n)
@@ -135,8 +132,3 @@ piece_within (b ∷ bs) =
     (λ _. either _ (is_ascii_digit b) _ _ (λ h. number_within _ _ (run_within b bs (digit_byte b h)))
     (λ _. either _ (nat_eq b 34) _ _ (λ _. text_within (length bs) (text_end bs) (end_within bs))
     (λ _. symbol_within symbols (b ∷ bs) refl)))
-
--- the same of an answer
-pub answer_within : (text : Text) (answer : Result (Token × ℕ) PieceFault) → IsPiece answer (piece text) → IfOk answer (λ p. (1 ≤ p.1) × (p.1 ≤ length text))
-answer_within text (Ok p) is = subst (IsWithin (length text)) is (piece_within text)
-answer_within text (Err fault) is = tt

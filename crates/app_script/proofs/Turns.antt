@@ -1,8 +1,8 @@
 -- Turns from the length of the text on give the same tokens.
-use Rattle.std.proofs.Common.{◌≡◌, ℕ, zero, suc, ◌+◌, ◌-◌, ◌<◌, ◌≤◌, Bool, true, false, if◌then◌else◌, nat_eq, List, [], ◌∷◌, length, drop, Ok, Err, refl, ap, sym, ◌∙◌, arith, length-drop}
+use Rattle.std.proofs.Common.{◌≡◌, ℕ, zero, suc, ◌+◌, ◌≤◌, Bool, true, false, if◌then◌else◌, nat_eq, [], ◌∷◌, length, drop, Ok, Err, refl, ap, sym, ◌∙◌, arith, length-drop}
 use Rattle.std.proofs.lemmas.Bool.{false≢true}
 use Rattle.std.specs.List.{prefix_len}
-use Rattle.script_tree.specs.Lexing.{Text, Lexed, Piece, is_blank, is_in_comment, piece, with_token, after_piece, after_comment, lex_from, lex, byte_fault, stops_at}
+use Rattle.script_tree.specs.Lexing.{Text, Lexed, Piece, is_blank, is_in_comment, piece, with_token, after_piece, after_comment, lex_from, lex}
 use Rattle.app_script.specs.Lexer.{lexed, nothing_left}
 use Rattle.app_script.proofs.PieceSizes.{IsWithin, piece_within}
 

@@ -1,7 +1,7 @@
 -- The answer of a lexer that has read a text.
-use Rattle.std.proofs.Common.{◌≡◌, ℕ, ◌++◌, List, [], map, Option, Some, None, Ok, Err, ap, sym, ◌∙◌, append-nil}
+use Rattle.std.proofs.Common.{◌≡◌, ℕ, ◌++◌, List, map, None, Ok, Err, ap, ◌∙◌, append-nil}
 use Rattle.script_tree.specs.declared.token.Token.{Token}
-use Rattle.script_tree.specs.Lexing.{Text, lex}
+use Rattle.script_tree.specs.Lexing.{Text}
 use Rattle.app_script.specs.declared.lexer.LexFault.{LexFault}
 use Rattle.app_script.specs.declared.lexer.LexFault.TheVariants.{Refused, NoMemory}
 use Rattle.app_script.specs.Lexer.{lexed, left, IsNext, IsLexed}

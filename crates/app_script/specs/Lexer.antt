@@ -1,6 +1,5 @@
 -- What a lexer has left, and what it answers.
-use Rattle.std.specs.Prelude.{◌≡◌, ℕ, ◌+◌, ◌≤◌, ◌<◌, Bool, true, false, nat_eq, List, [], ◌∷◌, length, drop, map, Option, Some, None, Result, Ok, Err}
-use Rattle.script_tree.specs.declared.token.Token.{Token}
+use Rattle.std.specs.Prelude.{◌≡◌, ℕ, ◌+◌, ◌≤◌, ◌<◌, Bool, true, false, nat_eq, [], ◌∷◌, length, drop, map, Option, Some, None, Result, Ok, Err}
 use Rattle.script_tree.specs.Lexing.{Text, Lexed, lex_from, lex, is_blank, with_token, stops_at, byte_fault}
 use Rattle.app_script.specs.declared.lexer.PlacedToken.{PlacedToken}
 use Rattle.app_script.specs.declared.lexer.Tokens.{Tokens}

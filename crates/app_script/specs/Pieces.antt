@@ -1,12 +1,12 @@
 -- What the functions of a piece answer.
-use Rattle.std.specs.Prelude.{◌≡◌, ℕ, ◌+◌, ◌≤◌, ℤ, pos, nat_eq, nat_lt, ◌&&◌, List, [], ◌∷◌, ◌++◌, drop, if◌then◌else◌, Option, Some, None, Result, Ok, Err}
+use Rattle.std.specs.Prelude.{◌≡◌, ℕ, ◌+◌, ◌≤◌, ℤ, pos, nat_eq, nat_lt, ◌&&◌, [], ◌∷◌, ◌++◌, if◌then◌else◌, Option, Some, None, Result, Ok, Err}
 use Rattle.std.specs.List.{list_all}
 use Rattle.std.specs.Char.{is_ascii_digit}
 use Rattle.flow_base.specs.TextBytes.{IsTextByte}
 use Rattle.script_tree.specs.declared.token.Token.{Token}
 use Rattle.script_tree.specs.declared.token.Token.TheVariants as t
 use Rattle.script_tree.specs.declared.token.Symbol.{Symbol}
-use Rattle.script_tree.specs.Lexing.{Text, Piece, digits_value, is_number, is_printable, escaped, with_byte, text_end, token_fault}
+use Rattle.script_tree.specs.Lexing.{Text, Piece, digits_value, is_number, is_printable, escaped, token_fault}
 use Rattle.app_script.specs.declared.piece.Part.{Part}
 use Rattle.app_script.specs.declared.piece.Part.TheVariants.{End, Byte}
 use Rattle.app_script.specs.declared.piece.PieceFault.{PieceFault}

@@ -1,8 +1,8 @@
 //! The tokens of a text, one at a time.
 
 ghost use Rattle.std.specs.Prelude.{◌≡◌, ◌<◌, ◌≤◌, ◌^◌, ◌+◌, ◌∷◌, [], ◌++◌, length, drop, IfOk, OnOk};
-ghost use Rattle.script_tree.specs.Grammar.{max_text};
 ghost use Rattle.std.specs.List.{prefix_len};
+ghost use Rattle.script_tree.specs.Grammar.{max_text};
 ghost use Rattle.script_tree.specs.Lexing.{is_in_comment};
 ghost use Rattle.app_script.specs.Lexer as spec;
 ghost use Rattle.app_script.specs.declared.lexer.LexFault.TheVariants.{NoMemory};

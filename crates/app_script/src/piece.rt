@@ -104,6 +104,7 @@ enum Part {
     Byte(u8, usize),
 }
 
+/// Whether the byte separates tokens.
 pub fn is_blank(byte: u8) -> bool
     ensures { result ≡ lexing.is_blank byte }
 {
@@ -116,6 +117,7 @@ fn is_printable(byte: u8) -> bool
     matches!(byte, 32..=126)
 }
 
+/// Whether a comment may hold the byte.
 pub fn is_in_comment(byte: u8) -> bool
     ensures { result ≡ lexing.is_in_comment byte }
 {

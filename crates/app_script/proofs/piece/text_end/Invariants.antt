@@ -1,4 +1,4 @@
-use Rattle.std.proofs.Common.{◌≡◌, ◌+◌, ◌^◌, ◌<◌, length, All}
+use Rattle.std.proofs.Common.{◌≡◌, ◌+◌, length, All}
 use Rattle.flow_base.specs.TextBytes.{IsTextByte}
 use Rattle.script_tree.specs.Lexing.{text_end}
 use Rattle.app_script.specs.Pieces.{with_front}
