@@ -110,4 +110,14 @@ impl Text {
     {
         self.text.as_str()
     }
+
+    /// The text that has these bytes.
+    pub fn from_bytes(bytes: Vec<u8>) -> Text
+        requires { All IsTextByte bytes.items }
+        ensures { result ≡ bytes.items }
+    {
+        Text {
+            text: String::from_utf8(bytes).unwrap(),
+        }
+    }
 }

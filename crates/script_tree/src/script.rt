@@ -1,6 +1,7 @@
 //! A script: its tree, and the places of its tokens where it was read from a text.
 
 ghost use Rattle.std.specs.Prelude.{◌≡◌};
+ghost use Rattle.script_tree.specs.Grammar.{IsSpellable};
 
 use crate::tree::{AppDef, Block};
 use sqlite_items::Items;
@@ -33,6 +34,26 @@ impl Model for Script {
 }
 
 impl Script {
+    /// The script of a tree that some text has, with a place for each of its tokens.
+    pub fn of(apps: Items<AppDef>, main: Block, places: Items<u32>) -> Script
+        requires { IsSpellable (apps, main) }
+        ensures { result ≡ record { tree = (apps, main); places = places } }
+    {
+        Script { apps, main, places }
+    }
+
+    pub fn apps(&self) -> &[AppDef]
+        ensures { result.now ≡ self.now.tree.0 }
+    {
+        self.apps.as_slice()
+    }
+
+    pub fn main(&self) -> &Block
+        ensures { result.now ≡ self.now.tree.1 }
+    {
+        &self.main
+    }
+
     /// The places are all 0.
     pub fn unplaced(self) -> Script
         ensures { result.tree ≡ self.tree }
