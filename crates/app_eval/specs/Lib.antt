@@ -1,0 +1,4 @@
+pub mod Does
+pub mod Gives
+pub mod Classes
+pub mod Places
