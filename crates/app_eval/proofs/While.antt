@@ -42,7 +42,6 @@ stops_at zero c b s st rs ran p e h = absurd (omega arith)
 stops_at (suc n) c b s (stop.Raised x) rs ran p e h = grind (arith, run-bind)
 stops_at (suc n) c b s (stop.Asks w) rs ran p e h = grind (arith, run-bind)
 stops_at (suc n) c b s stop.NoMemory rs ran p e h = tt
-stops_at (suc n) c b s stop.NotBuilt rs ran p e h = tt
 
 pub stops : {c : Calc} {b : Does} {s : State} {rs : List Answer} {ran : Ran Flow} (st : Stop) → Turning c b s rs ran → StopsRun st (run (one_turn c b s) rs) → StopsRun st ran
 stops st t h = stops_at t.number _ _ _ st _ _ t.enough t.same h

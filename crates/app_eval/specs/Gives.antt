@@ -10,7 +10,6 @@ abbrev pub Stops : {A : Type 0} → Stop → Act A → Type 0
 Stops (stop.Raised exception) act = act ≡ Throw exception
 Stops (stop.Asks request) act = ⊥
 Stops stop.NoMemory act = Unit {0}
-Stops stop.NotBuilt act = Unit {0}
 
 -- a function that asks for nothing
 abbrev pub Gives : {A : Type 0} → Result A Stop → Act A → Type 0
@@ -21,7 +20,6 @@ abbrev pub StopsRun : {A : Type 0} → Stop → Ran A → Type 0
 StopsRun (stop.Raised exception) ran = ran ≡ Threw exception
 StopsRun (stop.Asks request) ran = request_of ran ≡ Some request
 StopsRun stop.NoMemory ran = Unit {0}
-StopsRun stop.NotBuilt ran = Unit {0}
 
 -- a function that may ask, with the answers that are left
 abbrev pub GivesRun : {A : Type 0} → Result A Stop → List Answer → Ran A → Type 0

@@ -1,4 +1,5 @@
-pub mod Does
-pub mod Gives
 pub mod Classes
+pub mod Does
+pub mod Ends
+pub mod Gives
 pub mod Places

@@ -111,9 +111,9 @@ impl Body<'_> {
                 let text = text_of(self.value(e, frame, answers)?)?;
                 Err(Stop::Raised(Exception::AppError(text)))
             }
-            Statement::Write(_, _) => Err(Stop::NotBuilt),
-            Statement::Print(_) => Err(Stop::NotBuilt),
-            Statement::Checkpoint => Err(Stop::NotBuilt),
+            Statement::Write(_, _) => Err(Stop::NoMemory),
+            Statement::Print(_) => Err(Stop::NoMemory),
+            Statement::Checkpoint => Err(Stop::NoMemory),
             Statement::Call(e) => {
                 let _ = self.call(e, frame, answers)?;
                 Ok(Flow::Goes)

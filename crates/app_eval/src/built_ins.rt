@@ -41,5 +41,5 @@ pub fn named(name: &Text) -> Option<BuiltIn>
 pub fn applied(alloc: Global, built_in: BuiltIn, values: Items, answers: &mut Answers) -> Result<Value, Stop>
     ensures { GivesRun result answers.new.left.now (run (m.applied_to built_in values) answers.old.left.now) }
 {
-    Err(Stop::NotBuilt)
+    Err(Stop::NoMemory)
 }

@@ -5,6 +5,10 @@
 pub mod answers;
 pub mod body;
 pub mod built_ins;
+pub mod ending;
 pub mod expression;
 pub mod frame;
 pub mod operators;
+pub mod plain_app;
+
+pub use plain_app::apply;

@@ -17,7 +17,6 @@ pub enum Stop {
     Raised(Exception),
     Asks(Request),
     NoMemory,
-    NotBuilt,
 }
 
 impl From<AllocError> for Stop {
@@ -223,14 +222,14 @@ pub fn list_of(value: Value) -> Result<Items, Stop>
 pub fn compared(op: CompareOp, left: Value, right: Value) -> Result<Value, Stop>
     ensures { Gives result (meaning.compared op left right) }
 {
-    Err(Stop::NotBuilt)
+    Err(Stop::NoMemory)
 }
 
 /// An item of a list, or a byte of a text.
 pub fn indexed(alloc: Global, from: Value, index: Value) -> Result<Value, Stop>
     ensures { Gives result (meaning.indexed from index) }
 {
-    Err(Stop::NotBuilt)
+    Err(Stop::NoMemory)
 }
 
 /// The texts of a list of texts.

@@ -1,0 +1,11 @@
+-- The byte of a text at a place within it.
+use Rattle.std.proofs.Common.{◌≡◌, ℕ, zero, suc, ◌<◌, List, [], ◌∷◌, length, get_or, slice_get, arith}
+use Rattle.std.proofs.lemmas.Grind.{common_steps}
+use Rattle.flow_base.specs.declared.value.Value.TheVariants as v
+use Rattle.flow_meaning.specs.Act.{Give}
+use Rattle.flow_meaning.specs.Operators.{Text, text_item}
+
+pub text_item_within : (t : Text) (k : ℕ) → k < length t → text_item (slice_get t k) ≡ Give (v.Text (get_or t k 0 ∷ []))
+text_item_within [] k h = absurd (omega arith)
+text_item_within (b ∷ t) zero h = grind (arith, common_steps)
+text_item_within (b ∷ t) (suc k) h = text_item_within t k (omega arith)
