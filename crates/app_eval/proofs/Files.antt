@@ -1,5 +1,5 @@
 -- An output that was not written.
-use Rattle.std.proofs.Common.{◌≡◌, ℕ, zero, suc, ◌<◌, ◌+◌, List, [], ◌∷◌, ◌++◌, Option, Some, None, length, drop, slice_get, refl, arith}
+use Rattle.std.proofs.Common.{◌≡◌, ℕ, zero, suc, ◌<◌, ◌+◌, List, [], ◌∷◌, ◌++◌, Option, Some, None, length, drop, get_or, slice_get, refl, arith}
 use Rattle.std.proofs.lemmas.Grind.{common_steps}
 use Rattle.flow_base.specs.declared.outcome.FileOut.{FileOut}
 use Rattle.flow_base.specs.declared.outcome.Exception.TheVariants as x
@@ -20,10 +20,14 @@ missing_slot given (n ∷ ns) [] i p h = grind (arith, common_steps)
 missing_slot given (n ∷ ns) (w ∷ ws) zero p h = grind (arith, common_steps)
 missing_slot given (n ∷ ns) (w ∷ ws) (suc i) p h = missing_slot given ns ws i (omega arith) h
 
-pub files_step : (given : List FileOut) (names : List Text) (written : List (Option Text)) (i : ℕ) (n content : Text) → slice_get names i ≡ Some n → slice_get written i ≡ Some (Some content) → files_from (given ++ record { name = n; content = content } ∷ []) (drop (i + 1) names) (drop (i + 1) written) ≡ files_from given (drop i names) (drop i written)
-files_step given [] ws i n content p h = grind (arith, common_steps)
-files_step given (m ∷ ms) [] i n content p h = grind (arith, common_steps)
-files_step given (m ∷ ms) (w ∷ ws) zero n content p h = grind (arith, common_steps)
-files_step given (m ∷ ms) (w ∷ ws) (suc i) n content p h = grind (arith, common_steps, files_step given ms ws i n content)
+file_next : (given : List FileOut) (names : List Text) (written : List (Option Text)) (i : ℕ) (n content : Text) → i < length names → n ≡ get_or names i n → slice_get written i ≡ Some (Some content) → files_from (given ++ record { name = n; content = content } ∷ []) (drop (suc i) names) (drop (suc i) written) ≡ files_from given (drop i names) (drop i written)
+file_next given [] ws i n content p e h = absurd (omega arith)
+file_next given (m ∷ ms) [] zero n content p e h = absurd (cc)
+file_next given (m ∷ ms) [] (suc i) n content p e h = absurd (cc)
+file_next given (m ∷ ms) (w ∷ ws) zero n content p e h = grind (arith, common_steps)
+file_next given (m ∷ ms) (w ∷ ws) (suc i) n content p e h = file_next given ms ws i n content (omega arith) e h
+
+pub files_step : (given : List FileOut) (names : List Text) (written : List (Option Text)) (i : ℕ) (n content : Text) → i < length names → n ≡ get_or names i n → slice_get written i ≡ Some (Some content) → files_from (given ++ record { name = n; content = content } ∷ []) (drop (i + 1) names) (drop (i + 1) written) ≡ files_from given (drop i names) (drop i written)
+files_step given names written i n content p e h = let next : i + 1 ≡ suc i = omega arith in rw next (file_next given names written i n content p e h)
 
 pub ruleset files_rules = (missing_end, missing_slot)

@@ -5,7 +5,8 @@ use Rattle.script_tree.specs.declared.tree.Expr.{Expr}
 use Rattle.script_tree.specs.declared.tree.Statement.{Statement}
 use Rattle.script_tree.specs.Folds.{fold_statement}
 use Rattle.flow_meaning.specs.declared.walk.Answer.{Answer}
-use Rattle.flow_meaning.specs.Act.{Act, Give, ◌>>=◌}
+use Rattle.flow_meaning.specs.declared.walk.Request.TheVariants as request
+use Rattle.flow_meaning.specs.Act.{Give, Ask, ◌>>=◌}
 use Rattle.flow_meaning.specs.Operators.{Text, int_of, text_of}
 use Rattle.flow_meaning.specs.Meaning as m
 use Rattle.app_eval.specs.declared.frame.Frame.{Frame}
@@ -15,7 +16,7 @@ use Rattle.app_eval.specs.declared.frame.Turn.{Turn}
 use Rattle.app_eval.specs.declared.frame.Turn.TheVariants as turn
 use Rattle.app_eval.specs.declared.operators.Stop.{Stop}
 use Rattle.flow_meaning.specs.Run.{Ran, Gave}
-use Rattle.app_eval.specs.Gives.{StopsRun}
+use Rattle.app_eval.specs.Gives.{Stops, StopsRun}
 
 abbrev pub state_of : Frame → m.State
 state_of f = record { vars = f.vars.items; written = f.written.items; left = f.left }
@@ -47,3 +48,14 @@ module _ (apps : List Text) (names : List Text) where
 
   abbrev pub writes : Expr → Expr → m.Does
   writes e t s = m.value_of apps e s.vars >>= λ at. m.value_of apps t s.vars >>= λ with. int_of at >>= λ i. text_of with >>= λ content. m.writes apps names i content s
+
+  abbrev pub prints : Expr → m.Does
+  prints e s = m.value_of apps e s.vars >>= λ value. Ask (request.Print value) (λ _. Give (m.Goes s))
+
+  abbrev pub checkpoints : m.Does
+  checkpoints s = Ask request.Checkpoint (λ _. Give (m.Goes s))
+
+-- a function that changes the frame alone
+abbrev pub Writes : {A : Type 0} → Result A Stop → m.State → m.State → m.Does → Type 0
+Writes (Ok a) before behind does = does before ≡ Give (m.Goes behind)
+Writes (Err s) before behind does = Stops s (does before)

@@ -2,4 +2,3 @@ pub mod Classes
 pub mod Does
 pub mod Ends
 pub mod Gives
-pub mod Places

@@ -3,16 +3,17 @@
 ghost use Rattle.std.specs.Prelude.{◌≡◌, ◌<◌, ◌≤◌, ◌^◌, map, length, OnOk};
 ghost use Rattle.app_eval.specs.Gives.{GivesRun};
 ghost use Rattle.flow_meaning.specs.Run.{run};
-ghost use Rattle.app_eval.specs.Does.{Runs, RunsTurn, state_of, statement_does, sets};
+ghost use Rattle.app_eval.specs.Does.{Runs, RunsTurn, checkpoints, prints, sets, state_of, statement_does, writes};
 ghost use Rattle.flow_meaning.specs.Meaning as m;
 ghost use Rattle.flow_meaning.specs.Walk.{names_in};
 
 use crate::expression::Scope;
 use crate::frame::{Flow, Frame, Turn};
-use crate::operators::{Stop, list_of, text_of, truth_of};
+use crate::operators::{Stop, int_of, list_of, text_of, truth_of};
 use crate::answers::Answers;
 use script_tree::tree::{AppDef, Block, CallExpr, Expr, Statement};
 use flow_base::{Exception, Text, Value};
+use flow_meaning::Request;
 use std::alloc::Global;
 
 /// What a body runs in: the apps of the script, and the names of its outputs.
@@ -57,6 +58,39 @@ impl Body<'_> {
         let value = self.value(e, frame, answers)?;
         frame.set(self.alloc, name, value)?;
         Ok(Flow::Goes)
+    }
+
+    #[tactic(auto, using(crate::proofs::Rules::statement_rules))]
+    fn write(&self, output: &Expr, content: &Expr, frame: &mut Frame, answers: &mut Answers) -> Result<Flow, Stop>
+        ensures runs { Runs result frame.new answers.new.left.now (run (writes (names_in self.now.apps.now) self.now.names.now output.now content.now (state_of frame.old)) answers.old.left.now) }
+        ensures turns { OnOk result (frame.new.left ≤ frame.old.left) }
+    {
+        let output = self.value(output, frame, answers)?;
+        let content = self.value(content, frame, answers)?;
+        let output = int_of(output)?;
+        let content = text_of(content)?;
+        frame.write(self.names, output, content)?;
+        Ok(Flow::Goes)
+    }
+
+    #[tactic(auto, using(crate::proofs::Rules::statement_rules))]
+    fn print(&self, e: &Expr, frame: &Frame, answers: &mut Answers) -> Result<Flow, Stop>
+        ensures { Runs result frame.now answers.new.left.now (run (prints (names_in self.now.apps.now) self.now.names.now e.now (state_of frame.now)) answers.old.left.now) }
+    {
+        let value = self.value(e, frame, answers)?;
+        match answers.next() {
+            None => Err(Stop::Asks(Request::Print(value))),
+            Some(_) => Ok(Flow::Goes),
+        }
+    }
+
+    fn checkpoint(&self, frame: &Frame, answers: &mut Answers) -> Result<Flow, Stop>
+        ensures { Runs result frame.now answers.new.left.now (run (checkpoints (names_in self.now.apps.now) self.now.names.now (state_of frame.now)) answers.old.left.now) }
+    {
+        match answers.next() {
+            None => Err(Stop::Asks(Request::Checkpoint)),
+            Some(_) => Ok(Flow::Goes),
+        }
     }
 
     #[cycle(statement)]
@@ -111,9 +145,9 @@ impl Body<'_> {
                 let text = text_of(self.value(e, frame, answers)?)?;
                 Err(Stop::Raised(Exception::AppError(text)))
             }
-            Statement::Write(_, _) => Err(Stop::NoMemory),
-            Statement::Print(_) => Err(Stop::NoMemory),
-            Statement::Checkpoint => Err(Stop::NoMemory),
+            Statement::Write(output, content) => self.write(output, content, frame, answers),
+            Statement::Print(e) => self.print(e, frame, answers),
+            Statement::Checkpoint => self.checkpoint(frame, answers),
             Statement::Call(e) => {
                 let _ = self.call(e, frame, answers)?;
                 Ok(Flow::Goes)

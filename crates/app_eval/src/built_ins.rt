@@ -38,8 +38,8 @@ pub fn named(name: &Text) -> Option<BuiltIn>
 }
 
 /// What a built-in gives.
-pub fn applied(alloc: Global, built_in: BuiltIn, values: Items, answers: &mut Answers) -> Result<Value, Stop>
-    ensures { GivesRun result answers.new.left.now (run (m.applied_to built_in values) answers.old.left.now) }
+pub fn applied(alloc: Global, built_in: BuiltIn, values: &[Value], answers: &mut Answers) -> Result<Value, Stop>
+    ensures { GivesRun result answers.new.left.now (run (m.applied_to built_in values.now) answers.old.left.now) }
 {
     Err(Stop::NoMemory)
 }

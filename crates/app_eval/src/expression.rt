@@ -8,7 +8,9 @@ ghost use Rattle.flow_meaning.specs.Meaning as m;
 ghost use Rattle.flow_meaning.specs.Walk.{names_in};
 
 use crate::built_ins::{applied, named};
-use crate::operators::{Stop, added, compared, indexed, limited, multiplied, negated, texts_of, truth, truth_of};
+use crate::comparisons::compared;
+use crate::operators::{Stop, added, limited, multiplied, negated, texts_of, truth, truth_of};
+use crate::places::indexed;
 use crate::answers::Answers;
 use script_tree::tree::{
     Added, AppDef, Atom, CallExpr, Comp, Conj, Expr, Factor, Post, Sum, Term, Unary, UnaryOp,
@@ -104,7 +106,7 @@ impl Scope<'_> {
             None => Ok(left),
             Some(test) => {
                 let right = self.sum(&test.right, answers)?;
-                compared(test.op, left, right)
+                compared(test.op, &left, &right)
             }
         }
     }
@@ -183,7 +185,7 @@ impl Scope<'_> {
         let mut from = first;
         for other in others {
             let index = self.expr(other, answers)?;
-            from = indexed(self.alloc, from, index)?;
+            from = indexed(self.alloc, &from, &index)?;
         }
         Ok(from)
     }
@@ -222,7 +224,7 @@ impl Scope<'_> {
         let values = self.values(es, answers)?;
         match named(name) {
             None => Err(Stop::Raised(Exception::TypeError)),
-            Some(built_in) => applied(self.alloc, built_in, values, answers),
+            Some(built_in) => applied(self.alloc, built_in, values.as_slice(), answers),
         }
     }
 
@@ -233,7 +235,7 @@ impl Scope<'_> {
     {
         let arguments = self.values(e.arguments.as_slice(), answers)?;
         let names = self.values(e.names.as_slice(), answers)?;
-        let names = texts_of(self.alloc, names)?;
+        let names = texts_of(self.alloc, names.as_slice())?;
         self.called(&e.app, arguments, names, answers)
     }
 

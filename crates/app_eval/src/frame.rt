@@ -1,9 +1,12 @@
 //! What a body has while it runs.
 
-ghost use Rattle.std.specs.Prelude.{◌≡◌, OnOk, position, bytes_eq};
+ghost use Rattle.std.specs.Prelude.{◌≡◌, [], OnOk, position, bytes_eq, slice_set};
+ghost use Rattle.app_eval.specs.Does.{Writes, state_of};
 ghost use Rattle.flow_meaning.specs.Meaning as m;
 
-use flow_base::{Text, Value};
+use crate::operators::Stop;
+use crate::places::place_in;
+use flow_base::{Exception, Text, Value};
 use std::alloc::{AllocError, Global};
 
 /// Its variables, what it wrote to each output, and how many turns its loops may still make.
@@ -49,4 +52,33 @@ impl Frame {
         }
         Ok(())
     }
+
+    /// Writes a text to an output, in place of what was written to it before.
+    #[tactic(auto, using(crate::proofs::Within::name_within))]
+    pub fn write(&mut self, names: &[Text], output: i64, content: Text) -> Result<(), Stop>
+        ensures writes { Writes result (state_of self.old) (state_of self.new) (m.writes [] names.now output content) }
+        ensures left { self.new.left ≡ self.old.left }
+    {
+        let place = place_in(output, names.len())?;
+        if !file_fits(&names[place], &content) {
+            return Err(Stop::Raised(Exception::SizeError));
+        }
+        set_at(&mut self.written, place, content);
+        Ok(())
+    }
+}
+
+fn set_at(written: &mut Vec<Option<Text>>, place: usize, content: Text)
+    ensures { written.new.items ≡ slice_set written.old.items place (Some content) }
+{
+    if place < written.len() {
+        written[place] = Some(content);
+    }
+}
+
+/// Whether a file is within the limits of a value.
+fn file_fits(name: &Text, content: &Text) -> bool
+    ensures { result ≡ m.file_fits name.now content.now }
+{
+    name.len().saturating_add(content.len()) < 65536
 }

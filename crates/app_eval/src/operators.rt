@@ -5,7 +5,7 @@ ghost use Rattle.app_eval.specs.Gives.{Gives};
 ghost use Rattle.flow_meaning.specs.Operators as meaning;
 ghost use Rattle.flow_base.specs.Values.{fits};
 
-use script_tree::tree::{CompareOp, SumOp, TermOp};
+use script_tree::tree::{SumOp, TermOp};
 use flow_base::{Exception, Items, Names, Text, Value};
 use sqlite_items::Items as ListOf;
 use flow_meaning::Request;
@@ -197,7 +197,7 @@ pub fn truth(holds: bool) -> Value
     if holds { Value::Int(1) } else { Value::Int(0) }
 }
 
-/// The texts of a list.
+/// The bytes of a text, or TypeError.
 #[tactic(auto, unfolding(flow_meaning::specs::Operators::text_of))]
 pub fn text_of(value: Value) -> Result<Text, Stop>
     ensures { Gives result (meaning.text_of value) }
@@ -218,27 +218,13 @@ pub fn list_of(value: Value) -> Result<Items, Stop>
     }
 }
 
-/// What a comparison gives.
-pub fn compared(op: CompareOp, left: Value, right: Value) -> Result<Value, Stop>
-    ensures { Gives result (meaning.compared op left right) }
-{
-    Err(Stop::NoMemory)
-}
-
-/// An item of a list, or a byte of a text.
-pub fn indexed(alloc: Global, from: Value, index: Value) -> Result<Value, Stop>
-    ensures { Gives result (meaning.indexed from index) }
-{
-    Err(Stop::NoMemory)
-}
-
 /// The texts of a list of texts.
 #[tactic(auto, unfolding(flow_meaning::specs::Operators::text_of))]
-pub fn texts_of(alloc: Global, values: Items) -> Result<Names, Stop>
-    ensures { Gives result (meaning.texts_of values) }
+pub fn texts_of(alloc: Global, values: &[Value]) -> Result<Names, Stop>
+    ensures { Gives result (meaning.texts_of values.now) }
 {
     let mut texts = ListOf::new(alloc);
-    for value in values.as_slice() {
+    for value in values {
         match value {
             Value::Text(t) => texts.push(t.copy(alloc)?)?,
             _ => return Err(Stop::Raised(Exception::TypeError)),

@@ -1,6 +1,6 @@
 //! Items of lists and bytes of texts, by their places.
 
-ghost use Rattle.std.specs.Prelude.{◌<◌, IfOk};
+ghost use Rattle.std.specs.Prelude.{◌<◌, ◌≤◌, IfOk};
 ghost use Rattle.app_eval.specs.Gives.{Gives};
 ghost use Rattle.flow_base.specs.declared.value.Value.TheOpen.{Value-F};
 ghost use Rattle.flow_meaning.specs.Operators as meaning;
@@ -21,6 +21,25 @@ pub fn place_in(index: i64, count: usize) -> Result<usize, Stop>
     let place = index as usize;
     if place < count {
         Ok(place)
+    } else {
+        Err(Stop::Raised(Exception::IndexError))
+    }
+}
+
+/// The two ends of a part of `count` things, or IndexError.
+pub fn ends_in(from: i64, to: i64, count: usize) -> Result<(usize, usize), Stop>
+    ensures gives { Gives result (meaning.ends_in from to count) }
+    ensures within { IfOk result (λ ends. (ends.0 ≤ ends.1) × (ends.1 ≤ count)) }
+{
+    if from < 0 {
+        return Err(Stop::Raised(Exception::IndexError));
+    }
+    if to < 0 {
+        return Err(Stop::Raised(Exception::IndexError));
+    }
+    let ends = (from as usize, to as usize);
+    if ends.0 <= ends.1 && ends.1 <= count {
+        Ok(ends)
     } else {
         Err(Stop::Raised(Exception::IndexError))
     }
@@ -54,7 +73,7 @@ fn item_at(alloc: Global, items: &[Value], index: i64) -> Result<Value, Stop>
     }
 }
 
-#[tactic(auto, using(crate::proofs::Places::text_item_within))]
+#[tactic(auto, using(crate::proofs::Within::text_item_within))]
 fn byte_at(alloc: Global, text: &Text, index: i64) -> Result<Value, Stop>
     ensures { Gives result (meaning.item_at (Value-F.Text text.now) (Value-F.Int index)) }
 {

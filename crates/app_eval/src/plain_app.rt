@@ -26,10 +26,16 @@ fn parameters_with(
     for i in 0..parameters.len() {
         match at(arguments, i) {
             None => return Ok(vars),
-            Some(argument) => vars.push((parameters[i].copy(alloc)?, argument.copy(alloc)?))?,
+            Some(argument) => vars.push(variable(alloc, &parameters[i], argument)?)?,
         }
     }
     Ok(vars)
+}
+
+fn variable(alloc: Global, name: &Text, value: &Value) -> Result<(Text, Value), AllocError>
+    ensures { IfOk result (λ variable. variable ≡ (name.now, value.now)) }
+{
+    Ok((name.copy(alloc)?, value.copy(alloc)?))
 }
 
 /// No output is written yet.

@@ -1,2 +1,3 @@
+pub mod Exceptions
 pub mod TextBytes
 pub mod Values

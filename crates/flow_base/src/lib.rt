@@ -1,8 +1,10 @@
 //! The base of every layer: values and outcomes, and the outside that a run reads from and writes to.
 #![tactic(auto)]
 
+pub mod copies;
 pub mod outcome;
 pub mod path;
+pub mod same;
 pub mod text;
 pub mod value;
 

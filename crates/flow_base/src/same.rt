@@ -1,8 +1,9 @@
 //! Equality of values.
 
-ghost use Rattle.std.specs.Prelude.{◌≡◌, map};
+ghost use Rattle.std.specs.Prelude.{◌≡◌, bytes_eq, map};
 ghost use Rattle.flow_base.specs.Values.{all_match, same};
 
+use crate::path::Path;
 use crate::value::Value;
 
 impl Value {
@@ -24,11 +25,11 @@ impl Value {
                 _ => false,
             },
             Value::Future { path, outputs } => match other {
-                Value::Future { path: p, outputs: n } => path.same(p) && outputs == n,
+                Value::Future { path: p, outputs: n } => same_path(path, p) && outputs == n,
                 _ => false,
             },
             Value::Output { path, index } => match other {
-                Value::Output { path: p, index: i } => path.same(p) && index == i,
+                Value::Output { path: p, index: i } => same_path(path, p) && index == i,
                 _ => false,
             },
             Value::Nothing => matches!(other, Value::Nothing),
@@ -51,4 +52,10 @@ fn all_same(items: &[Value], others: &[Value]) -> bool
         }
     }
     true
+}
+
+fn same_path(path: &Path, other: &Path) -> bool
+    ensures { result ≡ bytes_eq path.now other.now }
+{
+    path.as_slice() == other.as_slice()
 }

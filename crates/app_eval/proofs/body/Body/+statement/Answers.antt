@@ -5,7 +5,7 @@ use Rattle.script_tree.specs.declared.tree.Statement.{fold_out-Statement}
 use Rattle.script_tree.specs.declared.tree.Block.{fold_out-Block}
 use Rattle.flow_meaning.specs.Run.{run}
 use Rattle.flow_meaning.proofs.Run.{run-bind}
-use Rattle.script_tree.specs.declared.tree.Statement.TheVariants.{rolls-Return, rolls-While, rolls-For, rolls-If, rolls-Raise, rolls-Call}
+use Rattle.script_tree.specs.declared.tree.Statement.TheVariants.{rolls-Return, rolls-While, rolls-For, rolls-If, rolls-Raise, rolls-Write, rolls-Print, rolls-Checkpoint, rolls-Call}
 use Rattle.script_tree.specs.declared.tree.Statement.{fold-roll-Statement}
 use Rattle.flow_meaning.specs.Operators.{list_of}
 use Rattle.flow_meaning.specs.Meaning.{repeated, value_of, does}
@@ -126,3 +126,15 @@ turn-returns-in-Returns-clause-runs t c = first_of (search (rules, statement_rul
 pub turn-returns-in_err-block-clause-runs : goal.turn-returns-in_err-block-clause-runs
 unfolding fold_block fold_statement list_of
 turn-returns-in_err-block-clause-runs t c = first_of (search (rules, statement_rules), grind (arith, common_steps, statement_rules))
+
+pub statement-returns-in-Write-clause-runs : goal.statement-returns-in-Write-clause-runs
+unfolding fold_block fold_statement list_of
+statement-returns-in-Write-clause-runs t c = rw (c.in-Write.is, ← rolls-Write c.in-Write.output c.in-Write.content, fold-roll-Statement) (first_of (search (rules, run-bind), grind (arith, common_steps, run-bind)))
+
+pub statement-returns-in-Print-clause-runs : goal.statement-returns-in-Print-clause-runs
+unfolding fold_block fold_statement list_of
+statement-returns-in-Print-clause-runs t c = rw (c.in-Print.is, ← rolls-Print c.in-Print.e, fold-roll-Statement) (first_of (search (rules, run-bind), grind (arith, common_steps, run-bind)))
+
+pub statement-returns-in-Checkpoint-clause-runs : goal.statement-returns-in-Checkpoint-clause-runs
+unfolding fold_block fold_statement list_of
+statement-returns-in-Checkpoint-clause-runs t c = rw (c.in-Checkpoint.is, ← rolls-Checkpoint, fold-roll-Statement) (first_of (search (rules, run-bind), grind (arith, common_steps, run-bind)))
