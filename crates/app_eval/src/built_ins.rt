@@ -6,11 +6,15 @@ ghost use Rattle.flow_meaning.specs.Run.{run};
 ghost use Rattle.flow_meaning.specs.Meaning as m;
 ghost use Rattle.script_tree.specs.BuiltIns.{built_in_named};
 
+use crate::files;
+use crate::lists;
+use crate::numbers;
 use crate::operators::Stop;
+use crate::texts;
+use crate::waits;
 use crate::answers::Answers;
 use script_tree::tree::BuiltIn;
-use flow_base::{Items, Text};
-use flow_base::Value;
+use flow_base::{Text, Value};
 use std::alloc::Global;
 
 /// The built-in of a name.
@@ -38,8 +42,29 @@ pub fn named(name: &Text) -> Option<BuiltIn>
 }
 
 /// What a built-in gives.
-pub fn applied(alloc: Global, built_in: BuiltIn, values: &[Value], answers: &mut Answers) -> Result<Value, Stop>
+#[tactic(auto, using(crate::proofs::GivenRuns::gives_run))]
+pub fn applied(
+    alloc: Global,
+    built_in: BuiltIn,
+    values: &[Value],
+    answers: &mut Answers,
+) -> Result<Value, Stop>
     ensures { GivesRun result answers.new.left.now (run (m.applied_to built_in values.now) answers.old.left.now) }
 {
-    Err(Stop::NoMemory)
+    match built_in {
+        BuiltIn::Len => lists::len(values),
+        BuiltIn::Text => numbers::text(alloc, values),
+        BuiltIn::Number => numbers::number(values),
+        BuiltIn::Slice => lists::slice(alloc, values),
+        BuiltIn::Range => lists::range(alloc, values),
+        BuiltIn::Append => lists::append(alloc, values),
+        BuiltIn::Split => texts::split(alloc, values),
+        BuiltIn::Concat => texts::concat(alloc, values),
+        BuiltIn::File => files::file(alloc, values),
+        BuiltIn::Name => files::name(alloc, values),
+        BuiltIn::Content => files::content(alloc, values),
+        BuiltIn::Output => files::output(alloc, values),
+        BuiltIn::Result => waits::result(alloc, values, answers),
+        BuiltIn::Exception => waits::exception(alloc, values, answers),
+    }
 }

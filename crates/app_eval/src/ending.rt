@@ -26,7 +26,7 @@ pub struct Done {
 }
 
 /// The files of a body that has ended, or MissingOutputs where one was not written.
-#[tactic(auto, using(crate::proofs::Files::files_rules))]
+#[tactic(auto, using(crate::proofs::Written::files_rules))]
 fn files_of(alloc: Global, names: &[Text], written: &[Option<Text>]) -> Result<Files, Stop>
     ensures { Gives result (m.files_of names.now written.now) }
 {

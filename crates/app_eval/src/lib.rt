@@ -8,9 +8,14 @@ pub mod built_ins;
 pub mod comparisons;
 pub mod ending;
 pub mod expression;
+pub mod files;
 pub mod frame;
+pub mod lists;
+pub mod numbers;
 pub mod operators;
 pub mod places;
 pub mod plain_app;
+pub mod texts;
+pub mod waits;
 
 pub use plain_app::apply;

@@ -1,6 +1,6 @@
 use Rattle.std.proofs.Common.{rules, arith, sym, ◌∙◌}
 use Rattle.std.proofs.lemmas.Grind.{common_steps}
-use Rattle.app_eval.proofs.Files.{missing_end, files_step}
+use Rattle.app_eval.proofs.Written.{missing_end, files_step}
 use Rattle.app_eval.proofs.ending.files_of.Goals as goal
 
 pub returns-in-None : goal.returns-in-None
