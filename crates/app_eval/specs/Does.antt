@@ -46,8 +46,11 @@ module _ (apps : List Text) (names : List Text) where
   abbrev pub sets : Text → Expr → m.Does
   sets name e s = m.value_of apps e s.vars >>= λ value. m.sets name value s
 
+  abbrev pub writes_value : Value → Value → m.Does
+  writes_value at with s = int_of at >>= λ i. text_of with >>= λ content. m.writes apps names i content s
+
   abbrev pub writes : Expr → Expr → m.Does
-  writes e t s = m.value_of apps e s.vars >>= λ at. m.value_of apps t s.vars >>= λ with. int_of at >>= λ i. text_of with >>= λ content. m.writes apps names i content s
+  writes e t s = m.value_of apps e s.vars >>= λ at. m.value_of apps t s.vars >>= λ with. writes_value at with s
 
   abbrev pub prints : Expr → m.Does
   prints e s = m.value_of apps e s.vars >>= λ value. Ask (request.Print value) (λ _. Give (m.Goes s))

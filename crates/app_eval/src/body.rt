@@ -3,7 +3,7 @@
 ghost use Rattle.std.specs.Prelude.{◌≡◌, ◌<◌, ◌≤◌, ◌^◌, map, length, OnOk};
 ghost use Rattle.app_eval.specs.Gives.{GivesRun};
 ghost use Rattle.flow_meaning.specs.Run.{run};
-ghost use Rattle.app_eval.specs.Does.{Runs, RunsTurn, checkpoints, prints, sets, state_of, statement_does, writes};
+ghost use Rattle.app_eval.specs.Does.{Runs, RunsTurn, Writes, checkpoints, prints, sets, state_of, statement_does, writes, writes_value};
 ghost use Rattle.flow_meaning.specs.Meaning as m;
 ghost use Rattle.flow_meaning.specs.Walk.{names_in};
 
@@ -67,10 +67,18 @@ impl Body<'_> {
     {
         let output = self.value(output, frame, answers)?;
         let content = self.value(content, frame, answers)?;
+        self.write_value(output, content, frame)?;
+        Ok(Flow::Goes)
+    }
+
+    #[tactic(auto, unfolding(flow_meaning::specs::Operators::int_of, flow_meaning::specs::Operators::text_of))]
+    fn write_value(&self, output: Value, content: Value, frame: &mut Frame) -> Result<(), Stop>
+        ensures writes { Writes result (state_of frame.old) (state_of frame.new) (writes_value (names_in self.now.apps.now) self.now.names.now output content) }
+        ensures left { frame.new.left ≡ frame.old.left }
+    {
         let output = int_of(output)?;
         let content = text_of(content)?;
-        frame.write(self.names, output, content)?;
-        Ok(Flow::Goes)
+        frame.write(self.names, output, content)
     }
 
     #[tactic(auto, using(crate::proofs::Rules::statement_rules))]

@@ -1,9 +1,10 @@
 //! The built-ins that cut and join texts.
 
-ghost use Rattle.std.specs.Prelude.{◌≡◌, ◌++◌, map, nat_eq, IfOk};
+ghost use Rattle.std.specs.Prelude.{◌≡◌, ◌++◌, map, nat_eq, All, IfOk};
 ghost use Rattle.std.specs.List.{slice_split};
 ghost use Rattle.app_eval.specs.Gives.{Gives};
 ghost use Rattle.app_eval.specs.Joins.{behind};
+ghost use Rattle.flow_base.specs.TextBytes.{IsTextByte};
 ghost use Rattle.flow_meaning.specs.Meaning as m;
 ghost use Rattle.flow_meaning.specs.Operators as meaning;
 
@@ -21,7 +22,7 @@ pub fn split(alloc: Global, values: &[Value]) -> Result<Value, Stop>
     match values {
         [text, by] => match text {
             Value::Text(text) => match by {
-                Value::Text(by) => split_at(alloc, text, by),
+                Value::Text(by) => split_at(alloc, text.as_slice(), by.as_slice()),
                 _ => Err(Stop::Raised(Exception::TypeError)),
             },
             _ => Err(Stop::Raised(Exception::TypeError)),
@@ -30,22 +31,24 @@ pub fn split(alloc: Global, values: &[Value]) -> Result<Value, Stop>
     }
 }
 
-fn split_at(alloc: Global, text: &Text, by: &Text) -> Result<Value, Stop>
+fn split_at(alloc: Global, text: &[u8], by: &[u8]) -> Result<Value, Stop>
+    requires { All IsTextByte text.now }
     ensures { Gives result (meaning.split_at text.now by.now) }
 {
-    match by.as_slice() {
+    match by {
         [separator] => limited(Value::List(pieces(alloc, text, *separator)?)),
         _ => Err(Stop::Raised(Exception::ValueError)),
     }
 }
 
 #[tactic(auto, using(crate::proofs::Splits::split_rules))]
-fn pieces(alloc: Global, text: &Text, separator: u8) -> Result<Items, AllocError>
+fn pieces(alloc: Global, text: &[u8], separator: u8) -> Result<Items, AllocError>
+    requires { All IsTextByte text.now }
     ensures { IfOk result (λ pieces. pieces ≡ map Value.Text (slice_split (λ c. nat_eq c separator) text.now)) }
 {
     let mut pieces = ListOf::new(alloc);
     let mut piece = Text::new(alloc);
-    for byte in text.as_slice() {
+    for byte in text {
         if *byte == separator {
             pieces.push(Value::Text(piece))?;
             piece = Text::new(alloc);
