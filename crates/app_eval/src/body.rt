@@ -7,13 +7,13 @@ ghost use Rattle.app_eval.specs.Does.{Runs, RunsTurn, Writes, checkpoints, print
 ghost use Rattle.flow_meaning.specs.Meaning as m;
 ghost use Rattle.flow_meaning.specs.Walk.{names_in};
 
+use crate::answers::Answers;
 use crate::expression::Scope;
 use crate::frame::{Flow, Frame, Turn};
 use crate::operators::{Stop, int_of, list_of, text_of, truth_of};
-use crate::answers::Answers;
-use script_tree::tree::{AppDef, Block, CallExpr, Expr, Statement};
 use flow_base::{Exception, Text, Value};
 use flow_meaning::Request;
+use script_tree::tree::{AppDef, Block, CallExpr, Expr, Statement};
 use std::alloc::Global;
 
 /// What a body runs in: the apps of the script, and the names of its outputs.
@@ -51,7 +51,13 @@ impl Body<'_> {
     }
 
     #[tactic(auto, using(crate::proofs::Rules::statement_rules))]
-    fn set(&self, name: &Text, e: &Expr, frame: &mut Frame, answers: &mut Answers) -> Result<Flow, Stop>
+    fn set(
+        &self,
+        name: &Text,
+        e: &Expr,
+        frame: &mut Frame,
+        answers: &mut Answers,
+    ) -> Result<Flow, Stop>
         ensures runs { Runs result frame.new answers.new.left.now (run (sets (names_in self.now.apps.now) self.now.names.now name.now e.now (state_of frame.old)) answers.old.left.now) }
         ensures turns { OnOk result (frame.new.left ≤ frame.old.left) }
     {
@@ -61,7 +67,13 @@ impl Body<'_> {
     }
 
     #[tactic(auto, using(crate::proofs::Rules::statement_rules))]
-    fn write(&self, output: &Expr, content: &Expr, frame: &mut Frame, answers: &mut Answers) -> Result<Flow, Stop>
+    fn write(
+        &self,
+        output: &Expr,
+        content: &Expr,
+        frame: &mut Frame,
+        answers: &mut Answers,
+    ) -> Result<Flow, Stop>
         ensures runs { Runs result frame.new answers.new.left.now (run (writes (names_in self.now.apps.now) self.now.names.now output.now content.now (state_of frame.old)) answers.old.left.now) }
         ensures turns { OnOk result (frame.new.left ≤ frame.old.left) }
     {
@@ -103,7 +115,12 @@ impl Body<'_> {
 
     #[cycle(statement)]
     #[tactic(auto, using(crate::proofs::Rules::statement_rules), unfolding(script_tree::specs::Folds::fold_block, script_tree::specs::Folds::fold_statement))]
-    pub fn block(&self, block: &Block, frame: &mut Frame, answers: &mut Answers) -> Result<Flow, Stop>
+    pub fn block(
+        &self,
+        block: &Block,
+        frame: &mut Frame,
+        answers: &mut Answers,
+    ) -> Result<Flow, Stop>
         ensures runs { Runs result frame.new answers.new.left.now (run (m.does (names_in self.now.apps.now) self.now.names.now block.now (state_of frame.old)) answers.old.left.now) }
         ensures turns { OnOk result (frame.new.left ≤ frame.old.left) }
     {
@@ -112,7 +129,12 @@ impl Body<'_> {
 
     #[cycle(statement)]
     #[tactic(auto, using(crate::proofs::Rules::statement_rules))]
-    fn statements(&self, statements: &[Statement], frame: &mut Frame, answers: &mut Answers) -> Result<Flow, Stop>
+    fn statements(
+        &self,
+        statements: &[Statement],
+        frame: &mut Frame,
+        answers: &mut Answers,
+    ) -> Result<Flow, Stop>
         ensures runs { Runs result frame.new answers.new.left.now (run (m.sequence (map (statement_does (names_in self.now.apps.now) self.now.names.now) statements.now) (state_of frame.old)) answers.old.left.now) }
         ensures turns { OnOk result (frame.new.left ≤ frame.old.left) }
     {
@@ -127,7 +149,12 @@ impl Body<'_> {
 
     #[cycle(statement)]
     #[tactic(auto, using(crate::proofs::Rules::statement_rules), unfolding(script_tree::specs::Folds::fold_block, script_tree::specs::Folds::fold_statement, flow_meaning::specs::Operators::list_of))]
-    fn statement(&self, statement: &Statement, frame: &mut Frame, answers: &mut Answers) -> Result<Flow, Stop>
+    fn statement(
+        &self,
+        statement: &Statement,
+        frame: &mut Frame,
+        answers: &mut Answers,
+    ) -> Result<Flow, Stop>
         ensures runs { Runs result frame.new answers.new.left.now (run (statement_does (names_in self.now.apps.now) self.now.names.now statement.now (state_of frame.old)) answers.old.left.now) }
         ensures turns { OnOk result (frame.new.left ≤ frame.old.left) }
     {
@@ -165,7 +192,13 @@ impl Body<'_> {
 
     #[cycle(statement)]
     #[tactic(auto, using(crate::proofs::Rules::statement_rules), unfolding(flow_meaning::specs::Meaning::repeated))]
-    fn repeat(&self, body: &Block, condition: &Expr, frame: &mut Frame, answers: &mut Answers) -> Result<Flow, Stop>
+    fn repeat(
+        &self,
+        body: &Block,
+        condition: &Expr,
+        frame: &mut Frame,
+        answers: &mut Answers,
+    ) -> Result<Flow, Stop>
         ensures runs { Runs result frame.new answers.new.left.now (run (m.repeated (m.value_of (names_in self.now.apps.now) condition.now) (m.does (names_in self.now.apps.now) self.now.names.now body.now) (state_of frame.old)) answers.old.left.now) }
         ensures turns { OnOk result (frame.new.left ≤ frame.old.left) }
     {
@@ -180,7 +213,13 @@ impl Body<'_> {
 
     #[cycle(statement)]
     #[tactic(auto, using(crate::proofs::Rules::statement_rules))]
-    fn turn(&self, body: &Block, condition: &Expr, frame: &mut Frame, answers: &mut Answers) -> Result<Turn, Stop>
+    fn turn(
+        &self,
+        body: &Block,
+        condition: &Expr,
+        frame: &mut Frame,
+        answers: &mut Answers,
+    ) -> Result<Turn, Stop>
         ensures runs { RunsTurn result frame.new answers.new.left.now (run (m.one_turn (m.value_of (names_in self.now.apps.now) condition.now) (m.does (names_in self.now.apps.now) self.now.names.now body.now) (state_of frame.old)) answers.old.left.now) }
         ensures turns { OnOk result (frame.new.left ≤ frame.old.left) }
         ensures over { result ≡ Ok Turn.Over → frame.new ≡ frame.old }
@@ -201,7 +240,14 @@ impl Body<'_> {
 
     #[cycle(statement)]
     #[tactic(auto, using(crate::proofs::Rules::statement_rules))]
-    fn each(&self, body: &Block, name: &Text, items: &[Value], frame: &mut Frame, answers: &mut Answers) -> Result<Flow, Stop>
+    fn each(
+        &self,
+        body: &Block,
+        name: &Text,
+        items: &[Value],
+        frame: &mut Frame,
+        answers: &mut Answers,
+    ) -> Result<Flow, Stop>
         ensures runs { Runs result frame.new answers.new.left.now (run (m.each_turn name.now (m.does (names_in self.now.apps.now) self.now.names.now body.now) items.now (state_of frame.old)) answers.old.left.now) }
         ensures turns { OnOk result (frame.new.left ≤ frame.old.left) }
     {
@@ -216,7 +262,14 @@ impl Body<'_> {
 
     #[cycle(statement)]
     #[tactic(auto, using(crate::proofs::Rules::statement_rules))]
-    fn item(&self, body: &Block, name: &Text, item: &Value, frame: &mut Frame, answers: &mut Answers) -> Result<Flow, Stop>
+    fn item(
+        &self,
+        body: &Block,
+        name: &Text,
+        item: &Value,
+        frame: &mut Frame,
+        answers: &mut Answers,
+    ) -> Result<Flow, Stop>
         ensures runs { Runs result frame.new answers.new.left.now (run (m.item_turn name.now (m.does (names_in self.now.apps.now) self.now.names.now body.now) item.now (state_of frame.old)) answers.old.left.now) }
         ensures turns { OnOk result (frame.new.left ≤ frame.old.left) }
     {

@@ -6,15 +6,11 @@ ghost use Rattle.flow_meaning.specs.Run.{run};
 ghost use Rattle.flow_meaning.specs.Meaning as m;
 ghost use Rattle.script_tree.specs.BuiltIns.{built_in_named};
 
-use crate::files;
-use crate::lists;
-use crate::numbers;
-use crate::operators::Stop;
-use crate::texts;
-use crate::waits;
 use crate::answers::Answers;
-use script_tree::tree::BuiltIn;
+use crate::operators::Stop;
+use crate::{files, lists, numbers, texts, waits};
 use flow_base::{Text, Value};
+use script_tree::tree::BuiltIn;
 use std::alloc::Global;
 
 /// The built-in of a name.

@@ -7,16 +7,16 @@ ghost use Rattle.app_eval.specs.Classes as calc;
 ghost use Rattle.flow_meaning.specs.Meaning as m;
 ghost use Rattle.flow_meaning.specs.Walk.{names_in};
 
+use crate::answers::Answers;
 use crate::built_ins::{applied, named};
 use crate::comparisons::compared;
 use crate::operators::{Stop, added, limited, multiplied, negated, texts_of, truth, truth_of};
 use crate::places::indexed;
-use crate::answers::Answers;
+use flow_base::{Exception, Items, Names, Text, Value};
+use flow_meaning::{Answer, Request};
 use script_tree::tree::{
     Added, AppDef, Atom, CallExpr, Comp, Conj, Expr, Factor, Post, Sum, Term, Unary, UnaryOp,
 };
-use flow_base::{Exception, Items, Names, Text, Value};
-use flow_meaning::{Answer, Request};
 use sqlite_items::Items as ListOf;
 use std::alloc::Global;
 
@@ -144,7 +144,12 @@ impl Scope<'_> {
 
     #[cycle(expr)]
     #[tactic(auto, using(crate::proofs::Rules::expr_rules), unfolding(script_tree::specs::Folds::fold_factor, script_tree::specs::Folds::fold_unary))]
-    fn products(&self, others: &[Factor], first: Value, answers: &mut Answers) -> Result<Value, Stop>
+    fn products(
+        &self,
+        others: &[Factor],
+        first: Value,
+        answers: &mut Answers,
+    ) -> Result<Value, Stop>
         ensures { GivesRun result answers.new.left.now (run (m.products self.now.vars.now first (map (calc.factor_calc (names_in self.now.apps.now)) others.now)) answers.old.left.now) }
     {
         let mut left = first;
@@ -252,7 +257,13 @@ impl Scope<'_> {
     }
 
     /// The future of a call.
-    fn called(&self, app: &Text, arguments: Items, names: Names, answers: &mut Answers) -> Result<Value, Stop>
+    fn called(
+        &self,
+        app: &Text,
+        arguments: Items,
+        names: Names,
+        answers: &mut Answers,
+    ) -> Result<Value, Stop>
         ensures { GivesRun result answers.new.left.now (run (m.call_of (names_in self.now.apps.now) app.now arguments names) answers.old.left.now) }
     {
         match answers.next() {

@@ -5,10 +5,10 @@ ghost use Rattle.app_eval.specs.Gives.{Gives};
 ghost use Rattle.flow_meaning.specs.Operators as meaning;
 ghost use Rattle.flow_base.specs.Values.{fits};
 
-use script_tree::tree::{SumOp, TermOp};
 use flow_base::{Exception, Items, Names, Text, Value};
-use sqlite_items::Items as ListOf;
 use flow_meaning::Request;
+use script_tree::tree::{SumOp, TermOp};
+use sqlite_items::Items as ListOf;
 use std::alloc::{AllocError, Global};
 
 /// Why an evaluation gave no value.

@@ -9,4 +9,4 @@ returns-in-None c = first_of (grind (arith, common_steps, pairs_end), search (ru
 pub loop-i-preserved : goal.loop-i-preserved
 loop-i-preserved c =
     pairs_preserved c.loop-i.vars.items c.push.new.self.items _ c.args.parameters.now c.args.arguments.now c.loop-i.i c.in_ok-variable-in-Some.field-0 c.index-parameters-i.result c.in-Some.argument.now
-        (search rules) c.in_ok-variable-in-Some.ensures (omega arith) c.index-parameters-i.is (sym c.in-Some.ensures) c.loop-i.invariant
+    (search rules) c.in_ok-variable-in-Some.ensures (omega arith) c.index-parameters-i.is (sym c.in-Some.ensures) c.loop-i.invariant
