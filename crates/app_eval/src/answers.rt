@@ -11,6 +11,7 @@ pub struct Answers<'a> {
 }
 
 impl<'a> Answers<'a> {
+    /// The next answer, or none where they run out.
     pub fn next(&mut self) -> Option<&'a Answer>
         ensures { MatchOption result ((self.old.left.now ≡ []) × (self.new.left.now ≡ [])) (λ r. self.old.left.now ≡ r.now ∷ self.new.left.now) }
     {

@@ -1,4 +1,4 @@
-//! What a body does.
+//! What the statements of a body do.
 
 ghost use Rattle.std.specs.Prelude.{◌≡◌, ◌<◌, ◌≤◌, ◌^◌, map, length, OnOk};
 ghost use Rattle.app_eval.specs.Gives.{GivesRun};
@@ -113,6 +113,7 @@ impl Body<'_> {
         }
     }
 
+    /// What a block does, by the answers to its requests: it changes the frame, and goes on or returns.
     #[cycle(statement)]
     #[tactic(auto, using(crate::proofs::Rules::statement_rules), unfolding(script_tree::specs::Folds::fold_block, script_tree::specs::Folds::fold_statement))]
     pub fn block(

@@ -20,7 +20,7 @@ use script_tree::tree::{
 use sqlite_items::Items as ListOf;
 use std::alloc::Global;
 
-/// What an expression is evaluated in.
+/// What an expression is evaluated in: the apps of the script, and the variables of the body.
 #[derive(Drop)]
 pub struct Scope<'a> {
     pub alloc: Global,
@@ -42,6 +42,7 @@ fn variable(alloc: Global, name: &Text, vars: &[(Text, Value)]) -> Result<Value,
 }
 
 impl Scope<'_> {
+    /// The value of an expression, by the answers to its requests.
     #[cycle(expr)]
     #[tactic(auto, using(crate::proofs::Rules::expr_rules), unfolding(script_tree::specs::Folds::fold_expr, script_tree::specs::Folds::fold_conj))]
     pub fn expr(&self, e: &Expr, answers: &mut Answers) -> Result<Value, Stop>
@@ -233,6 +234,7 @@ impl Scope<'_> {
         }
     }
 
+    /// The future of a call: its arguments and then its names are evaluated, and it is asked for.
     #[cycle(expr)]
     #[tactic(auto, using(crate::proofs::Rules::expr_rules), unfolding(script_tree::specs::Folds::fold_call, script_tree::specs::Folds::fold_expr))]
     pub fn call(&self, e: &CallExpr, answers: &mut Answers) -> Result<Value, Stop>
@@ -256,7 +258,7 @@ impl Scope<'_> {
         Ok(values)
     }
 
-    /// The future of a call.
+    /// The future of a call of these arguments and names.
     fn called(
         &self,
         app: &Text,

@@ -1,4 +1,4 @@
-//! What a body has while it runs.
+//! Variables, written outputs and turns.
 
 ghost use Rattle.std.specs.Prelude.{◌≡◌, [], OnOk, position, bytes_eq, slice_set};
 ghost use Rattle.app_eval.specs.Does.{Writes, state_of};
@@ -9,11 +9,14 @@ use crate::places::place_in;
 use flow_base::{Exception, Text, Value};
 use std::alloc::{AllocError, Global};
 
-/// Its variables, what it wrote to each output, and how many turns its loops may still make.
+/// What a body has while it runs.
 #[derive(Drop)]
 pub struct Frame {
+    /// Its variables, each with its value, in the order in which they were first set.
     pub vars: Vec<(Text, Value)>,
+    /// What it wrote to each output.
     pub written: Vec<Option<Text>>,
+    /// How many turns its loops may still make.
     pub left: u32,
 }
 
@@ -68,6 +71,7 @@ impl Frame {
     }
 }
 
+/// Sets an output, where there is one at the place.
 fn set_at(written: &mut Vec<Option<Text>>, place: usize, content: Text)
     ensures { written.new.items ≡ slice_set written.old.items place (Some content) }
 {

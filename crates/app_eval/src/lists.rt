@@ -131,6 +131,7 @@ pub fn range(alloc: Global, values: &[Value]) -> Result<Value, Stop>
 fn ints_between(alloc: Global, from: i64, to: i64) -> Result<Value, Stop>
     ensures { Gives result (meaning.limited (Value.List (meaning.ints_from from (meaning.count_between (to -ℤ from))))) }
 {
+    // A list is one unit itself, and each Int is one.
     if count_between(from, to) > 65535 {
         return Err(Stop::Raised(Exception::SizeError));
     }

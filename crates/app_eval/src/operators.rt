@@ -14,7 +14,9 @@ use std::alloc::{AllocError, Global};
 /// Why an evaluation gave no value.
 #[derive(Drop)]
 pub enum Stop {
+    /// It ended by an exception.
     Raised(Exception),
+    /// It asks for this, and has no answer yet.
     Asks(Request),
     NoMemory,
 }
@@ -30,6 +32,7 @@ impl From<AllocError> for Stop {
     }
 }
 
+/// The number of an Int, or TypeError.
 #[tactic(auto, unfolding(flow_meaning::specs::Operators::int_of))]
 pub fn int_of(value: Value) -> Result<i64, Stop>
     ensures { Gives result (meaning.int_of value) }
@@ -40,6 +43,7 @@ pub fn int_of(value: Value) -> Result<i64, Stop>
     }
 }
 
+/// An Int with the other sign.
 #[tactic(auto, unfolding(flow_meaning::specs::Operators::negated))]
 pub fn negated(value: Value) -> Result<Value, Stop>
     ensures { Gives result (meaning.negated value) }
@@ -50,6 +54,7 @@ pub fn negated(value: Value) -> Result<Value, Stop>
     }
 }
 
+/// The product, quotient or remainder of two Ints. Division goes toward zero.
 #[tactic(auto, unfolding(flow_meaning::specs::Operators::multiplied))]
 pub fn multiplied(op: TermOp, left: Value, right: Value) -> Result<Value, Stop>
     ensures { Gives result (meaning.multiplied op left right) }
@@ -102,7 +107,7 @@ fn rest(a: i64, b: i64) -> Result<Value, Stop>
     Ok(Value::Int(a % b))
 }
 
-pub fn plus(a: i64, b: i64) -> Result<Value, Stop>
+fn plus(a: i64, b: i64) -> Result<Value, Stop>
     ensures { Gives result (meaning.int (a +ℤ b)) }
 {
     match a.checked_add(b) {
@@ -111,8 +116,7 @@ pub fn plus(a: i64, b: i64) -> Result<Value, Stop>
     }
 }
 
-/// A value, unless it is past the limits.
-#[tactic(auto)]
+/// A value, or SizeError where it is past the limits.
 pub fn limited(value: Value) -> Result<Value, Stop>
     ensures { Gives result (meaning.limited value) }
 {
@@ -123,6 +127,7 @@ pub fn limited(value: Value) -> Result<Value, Stop>
     }
 }
 
+/// Whether a condition holds: an Int that isn't 0.
 #[tactic(auto, unfolding(flow_meaning::specs::Operators::truth_of, flow_meaning::specs::Operators::int_of))]
 pub fn truth_of(value: Value) -> Result<bool, Stop>
     ensures { Gives result (meaning.truth_of value) }
@@ -130,7 +135,7 @@ pub fn truth_of(value: Value) -> Result<bool, Stop>
     Ok(int_of(value)? != 0)
 }
 
-/// The sum of Ints, or texts or lists joined.
+/// The sum or the difference of two Ints, or two texts or two lists joined.
 #[tactic(auto, unfolding(flow_meaning::specs::Operators::added))]
 pub fn added(op: SumOp, left: Value, right: Value) -> Result<Value, Stop>
     ensures { Gives result (meaning.added op left right) }
@@ -174,14 +179,14 @@ fn difference(left: Value, right: Value) -> Result<Value, Stop>
 {
     match left {
         Value::Int(a) => match right {
-            Value::Int(b) => return less(a, b),
+            Value::Int(b) => return minus(a, b),
             _ => return Err(Stop::Raised(Exception::TypeError)),
         },
         _ => return Err(Stop::Raised(Exception::TypeError)),
     }
 }
 
-fn less(a: i64, b: i64) -> Result<Value, Stop>
+fn minus(a: i64, b: i64) -> Result<Value, Stop>
     ensures { Gives result (meaning.int (a -ℤ b)) }
 {
     match a.checked_sub(b) {
@@ -197,7 +202,7 @@ pub fn truth(holds: bool) -> Value
     if holds { Value::Int(1) } else { Value::Int(0) }
 }
 
-/// The bytes of a text, or TypeError.
+/// A text, or TypeError.
 #[tactic(auto, unfolding(flow_meaning::specs::Operators::text_of))]
 pub fn text_of(value: Value) -> Result<Text, Stop>
     ensures { Gives result (meaning.text_of value) }
@@ -208,6 +213,7 @@ pub fn text_of(value: Value) -> Result<Text, Stop>
     }
 }
 
+/// The items of a list, or TypeError.
 #[tactic(auto, unfolding(flow_meaning::specs::Operators::list_of))]
 pub fn list_of(value: Value) -> Result<Items, Stop>
     ensures { Gives result (meaning.list_of value) }
