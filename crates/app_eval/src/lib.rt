@@ -1,3 +1,4 @@
+<<<<<<< HEAD
 //! Stub.
 #![tactic(auto)]
 
@@ -13,3 +14,28 @@ pub fn apply(alloc: Global, app: &AppDef, arguments: &Items, names: &Names) -> R
 {
     Err(AllocError)
 }
+=======
+//! Bodies run: what a plain app's body gives, and expressions and statements by the answers to their
+//! requests.
+#![tactic(auto)]
+
+pub mod answers;
+pub mod body;
+pub mod built_ins;
+pub mod comparisons;
+pub mod ending;
+pub mod expression;
+pub mod files;
+pub mod frame;
+pub mod lists;
+pub mod numbers;
+pub mod operators;
+pub mod places;
+pub mod plain_app;
+#[cfg(test)]
+mod tests;
+pub mod texts;
+pub mod waits;
+
+pub use plain_app::apply;
+>>>>>>> bfbf7bf5d0df7488cdfd1922cb9ac84c3ab3c906

@@ -1,4 +1,5 @@
 pub mod Act
+pub mod Run
 pub mod Operators
 pub mod Told
 pub mod Meaning

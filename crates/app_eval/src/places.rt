@@ -1,0 +1,85 @@
+//! Items of lists and bytes of texts, by their places.
+
+ghost use Rattle.std.specs.Prelude.{◌<◌, ◌≤◌, IfOk};
+ghost use Rattle.app_eval.specs.Gives.{Gives};
+ghost use Rattle.flow_base.specs.declared.value.Value.TheOpen.{Value-F};
+ghost use Rattle.flow_meaning.specs.Operators as meaning;
+
+use crate::operators::Stop;
+use flow_base::{Exception, Text, Value};
+use sqlite_items::at;
+use std::alloc::Global;
+
+/// The place that an Int names among `count`, or IndexError.
+pub fn place_in(index: i64, count: usize) -> Result<usize, Stop>
+    ensures gives { Gives result (meaning.place_in index count) }
+    ensures within { IfOk result (λ place. place < count) }
+{
+    if index < 0 {
+        return Err(Stop::Raised(Exception::IndexError));
+    }
+    let place = index as usize;
+    if place < count {
+        Ok(place)
+    } else {
+        Err(Stop::Raised(Exception::IndexError))
+    }
+}
+
+/// The two ends of a part of `count` things, or IndexError.
+pub fn ends_in(from: i64, to: i64, count: usize) -> Result<(usize, usize), Stop>
+    ensures gives { Gives result (meaning.ends_in from to count) }
+    ensures within { IfOk result (λ ends. (ends.0 ≤ ends.1) × (ends.1 ≤ count)) }
+{
+    if from < 0 {
+        return Err(Stop::Raised(Exception::IndexError));
+    }
+    if to < 0 {
+        return Err(Stop::Raised(Exception::IndexError));
+    }
+    let ends = (from as usize, to as usize);
+    if ends.0 <= ends.1 && ends.1 <= count {
+        Ok(ends)
+    } else {
+        Err(Stop::Raised(Exception::IndexError))
+    }
+}
+
+/// An item of a list, or a text of one byte of a text.
+#[tactic(auto, unfolding(flow_meaning::specs::Operators::indexed))]
+pub fn indexed(alloc: Global, from: &Value, index: &Value) -> Result<Value, Stop>
+    ensures { Gives result (meaning.indexed from.now index.now) }
+{
+    match from {
+        Value::List(items) => match index {
+            Value::Int(i) => item_at(alloc, items.as_slice(), *i),
+            _ => Err(Stop::Raised(Exception::TypeError)),
+        },
+        Value::Text(text) => match index {
+            Value::Int(i) => byte_at(alloc, text, *i),
+            _ => Err(Stop::Raised(Exception::TypeError)),
+        },
+        _ => Err(Stop::Raised(Exception::TypeError)),
+    }
+}
+
+fn item_at(alloc: Global, items: &[Value], index: i64) -> Result<Value, Stop>
+    ensures { Gives result (meaning.item_at (Value-F.List items.now) (Value-F.Int index)) }
+{
+    let place = place_in(index, items.len())?;
+    match at(items, place) {
+        Some(item) => Ok(item.copy(alloc)?),
+        None => Err(Stop::Raised(Exception::IndexError)),
+    }
+}
+
+#[tactic(auto, using(crate::proofs::Within::text_item_within))]
+fn byte_at(alloc: Global, text: &Text, index: i64) -> Result<Value, Stop>
+    ensures { Gives result (meaning.item_at (Value-F.Text text.now) (Value-F.Int index)) }
+{
+    let bytes = text.as_slice();
+    let place = place_in(index, bytes.len())?;
+    let mut item = Text::new(alloc);
+    item.push(bytes[place])?;
+    Ok(Value::Text(item))
+}
