@@ -1,11 +1,15 @@
 //! Exceptions, outcomes, and what a whole script gives.
 
+ghost use Rattle.std.specs.Prelude.{◌≡◌};
+ghost use Rattle.flow_base.specs.Exceptions.{exception_name};
+
 use crate::path::{Path, Paths};
 use crate::text::Text;
 use crate::value::{Items, Value};
 use sqlite_items::Items as ListOf;
 
 pub type Files = ListOf<FileOut>;
+
 pub type TaskEnds = ListOf<TaskEnd>;
 
 /// Why a body or a task has no value.
@@ -27,6 +31,29 @@ pub enum Exception {
     DepthError,
     /// The number of the manager that was lost.
     ManagerLost(u32),
+}
+
+impl Exception {
+    /// Its name, without what it carries.
+    pub fn name(&self) -> &'static str
+        ensures { result.now ≡ exception_name self.now }
+    {
+        match self {
+            Exception::ZeroDivisionError => "ZeroDivisionError",
+            Exception::OverflowError => "OverflowError",
+            Exception::TypeError => "TypeError",
+            Exception::IndexError => "IndexError",
+            Exception::ValueError => "ValueError",
+            Exception::SizeError => "SizeError",
+            Exception::BudgetError => "BudgetError",
+            Exception::MissingOutputs => "MissingOutputs",
+            Exception::AppError(_) => "AppError",
+            Exception::DependencyError(_) => "DependencyError",
+            Exception::JoinError(_) => "JoinError",
+            Exception::DepthError => "DepthError",
+            Exception::ManagerLost(_) => "ManagerLost",
+        }
+    }
 }
 
 /// A file that an app wrote to one of its outputs.

@@ -1,6 +1,6 @@
 //! The names of tasks.
 
-ghost use Rattle.std.specs.Prelude.{◌≡◌, ◌++◌, ◌∷◌, [], ◌<◌, ◌≤◌, length, IfOk, OnOk, OnErr};
+ghost use Rattle.std.specs.Prelude.{◌≡◌, ◌++◌, ◌∷◌, [], ◌<◌, ◌≤◌, length, slice_get, IfOk, OnOk, OnErr};
 
 use sqlite_items::Items as ListOf;
 use std::alloc::{AllocError, Global};
@@ -65,6 +65,13 @@ impl Path {
         ensures { result ≡ length self.now }
     {
         self.numbers.len()
+    }
+
+    /// The number at a place, counted from 0.
+    pub fn get(&self, place: usize) -> Option<u32>
+        ensures { result ≡ slice_get self.now place }
+    {
+        self.numbers.get(place).copied()
     }
 
     /// Its numbers.

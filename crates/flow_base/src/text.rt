@@ -65,8 +65,25 @@ impl Text {
     /// Adds the other's bytes at the end.
     pub fn append(&mut self, other: &Text) -> Result<(), AllocError>
         ensures ok { OnOk result (self.new ≡ self.old ++ other.now) }
+        ensures err { OnErr result (self.new ≡ self.old) }
     {
         self.text.push_str(other.text.as_str())
+    }
+
+    /// Adds a byte at the end.
+    pub fn push(&mut self, byte: u8) -> Result<(), AllocError>
+        requires { IsTextByte byte }
+        ensures ok { OnOk result (self.new ≡ self.old ++ byte ∷ []) }
+        ensures err { OnErr result (self.new ≡ self.old) }
+    {
+        self.text.push(char::from(byte))
+    }
+
+    /// The byte at a place, counted from 0.
+    pub fn get(&self, place: usize) -> Option<u8>
+        ensures { result ≡ slice_get self.now place }
+    {
+        self.text.as_bytes().get(place).copied()
     }
 
     pub fn len(&self) -> usize

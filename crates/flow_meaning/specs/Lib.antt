@@ -5,3 +5,4 @@ pub mod Meaning
 pub mod Inputs
 pub mod Sequential
 pub mod Walk
+pub mod Evaluations

@@ -1,5 +1,5 @@
 -- What a body makes of an answer.
-use Rattle.std.specs.Prelude.{ℕ, List, [], ◌∷◌, Option, Some, None, slice_get, codes}
+use Rattle.std.specs.Prelude.{ℕ, List, [], ◌∷◌, Option, Some, None, slice_get}
 use Rattle.flow_base.specs.declared.value.Value.{Value, out-Value}
 use Rattle.flow_base.specs.declared.value.Value.TheOpen.{Value-F}
 use Rattle.flow_base.specs.declared.value.Value.TheVariants as v
@@ -8,27 +8,13 @@ use Rattle.flow_base.specs.declared.outcome.Outcome.{Outcome}
 use Rattle.flow_base.specs.declared.outcome.Outcome.TheVariants as o
 use Rattle.flow_base.specs.declared.outcome.Exception.{Exception}
 use Rattle.flow_base.specs.declared.outcome.Exception.TheVariants as x
+use Rattle.flow_base.specs.Exceptions.{exception_name}
 use Rattle.flow_meaning.specs.declared.walk.Request.{Request}
 use Rattle.flow_meaning.specs.declared.walk.Request.TheVariants as request
 use Rattle.flow_meaning.specs.declared.walk.Answer.{Answer}
 use Rattle.flow_meaning.specs.declared.walk.Answer.TheVariants as answer
 use Rattle.flow_meaning.specs.Act.{Act, Give, Throw, Ask, ◌>>=◌}
 use Rattle.flow_meaning.specs.Operators.{Layer, Text}
-
-abbrev pub exception_name : Exception → Text
-exception_name x.ZeroDivisionError = codes "ZeroDivisionError"
-exception_name x.OverflowError = codes "OverflowError"
-exception_name x.TypeError = codes "TypeError"
-exception_name x.IndexError = codes "IndexError"
-exception_name x.ValueError = codes "ValueError"
-exception_name x.SizeError = codes "SizeError"
-exception_name x.BudgetError = codes "BudgetError"
-exception_name x.MissingOutputs = codes "MissingOutputs"
-exception_name (x.AppError t) = codes "AppError"
-exception_name (x.DependencyError ps) = codes "DependencyError"
-exception_name (x.JoinError ps) = codes "JoinError"
-exception_name x.DepthError = codes "DepthError"
-exception_name (x.ManagerLost m) = codes "ManagerLost"
 
 abbrev pub as_file : Option FileOut → Act Value
 as_file (Some f) = Give (v.File f.name f.content)

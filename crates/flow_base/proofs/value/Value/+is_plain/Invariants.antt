@@ -1,4 +1,4 @@
-use Rattle.std.proofs.Common.{◌≡◌, true, map, take, drop}
+use Rattle.std.proofs.Common.{◌≡◌, map, drop}
 use Rattle.std.specs.List.{list_all}
 use Rattle.flow_base.specs.Values.{is_plain}
 use Rattle.flow_base.proofs.value.Value.+is_plain.Given as goal

@@ -1,0 +1,9 @@
+mod Equations
+mod Sums
+mod Apps
+mod Mains
+mod Tasks
+mod Runs
+mod Whole
+mod Settling
+mod Evaluating
