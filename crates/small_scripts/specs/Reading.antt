@@ -18,6 +18,7 @@ abbrev pub IsReadAs : Tree → Option SmallScript → Type 0
 IsReadAs tree (Some small) = tree_of small ≡ tree
 IsReadAs tree None = IsSmall tree → ⊥
 
+-- the expression and the body of a sum, and the expression of a call
 abbrev pub total_expr : Total → Expr
 total_expr total = sum_expr total.first total.others
 

@@ -1,7 +1,7 @@
 //! Apps that return a sum.
 
 ghost use Rattle.std.specs.Prelude.{◌≡◌, map, IfOk};
-ghost use Rattle.script_tree.specs.Small.{sum_expr, app_body, app_of};
+ghost use Rattle.script_tree.specs.Small.{app_of};
 ghost use Rattle.small_scripts.specs.Reading.{IsPartOf, total_expr, total_body};
 
 use crate::alone::{sum_alone, term_atom};

@@ -1,6 +1,6 @@
 //! Operands, and lists of them.
 
-ghost use Rattle.std.specs.Prelude.{◌≡◌, map, IfOk};
+ghost use Rattle.std.specs.Prelude.{map, IfOk};
 ghost use Rattle.script_tree.specs.Small.{operand_atom, plus_operand, operand_expr};
 ghost use Rattle.small_scripts.specs.Reading.{IsPartOf};
 

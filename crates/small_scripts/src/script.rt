@@ -1,6 +1,6 @@
 //! Small scripts.
 
-ghost use Rattle.std.specs.Prelude.{◌≡◌, IfOk};
+ghost use Rattle.std.specs.Prelude.{IfOk};
 ghost use Rattle.small_scripts.specs.Reading.{IsReadAs};
 
 use crate::app::small_apps;

@@ -1,6 +1,6 @@
 //! Statements that keep a call or print a result.
 
-ghost use Rattle.std.specs.Prelude.{◌≡◌, map, IfOk};
+ghost use Rattle.std.specs.Prelude.{map, IfOk};
 ghost use Rattle.std.specs.Option.{option_copied};
 ghost use Rattle.script_tree.specs.Small.{result_expr, statement_of};
 ghost use Rattle.small_scripts.specs.Reading.{IsPartOf, app_call_expr};

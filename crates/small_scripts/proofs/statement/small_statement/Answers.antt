@@ -1,5 +1,4 @@
-use Rattle.std.proofs.Common.{◌≡◌, subst, None}
-use Rattle.script_tree.specs.Small.{statement_of}
+use Rattle.std.proofs.Common.{subst, None}
 use Rattle.small_scripts.specs.Reading.{IsPartOf, app_call_expr}
 use Rattle.small_scripts.proofs.Statements.{no_call}
 use Rattle.small_scripts.proofs.statement.small_statement.Goals as goal
