@@ -1,7 +1,7 @@
 //! The base of every layer: values and outcomes, and the outside that a run reads from and writes to.
 #![tactic(auto)]
 
-<<<<<<< HEAD
+pub mod copies;
 pub mod host_shelf;
 pub mod host_sink;
 mod mem_file;
@@ -9,16 +9,11 @@ pub mod mem_shelf;
 pub mod mem_sink;
 pub mod outcome;
 pub mod path;
+pub mod same;
 pub mod shelf;
 pub mod sink;
 #[cfg(test)]
 mod tests;
-=======
-pub mod copies;
-pub mod outcome;
-pub mod path;
-pub mod same;
->>>>>>> bfbf7bf5d0df7488cdfd1922cb9ac84c3ab3c906
 pub mod text;
 pub mod value;
 pub mod word;
