@@ -7,3 +7,6 @@ mod Runs
 mod Whole
 mod Settling
 mod Evaluating
+mod Sound
+mod Lines
+mod Courses

@@ -47,6 +47,11 @@ line_of (Unread name) = read_line name.now
 line_of Unwritten = write_line
 line_of NoMemory = memory_line
 
+-- no other name is told
+abbrev pub NamesAlone : List ℕ → Ending → Type 0
+NamesAlone name (Unread other) = other.now ≡ name
+NamesAlone name _ = Unit {0}
+
 -- ---- the shelf
 
 -- the longest script, and one byte more

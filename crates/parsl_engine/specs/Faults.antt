@@ -1,6 +1,6 @@
 -- Why a script has no output.
-use Rattle.app_script.specs.declared.script_text.ParseFault.{ParseFault}
-use Rattle.app_script.specs.declared.script_text.ParseFault.TheVariants as parse
+use Rattle.app_script.specs.declared.parse.ParseFault.{ParseFault}
+use Rattle.app_script.specs.declared.parse.ParseFault.TheVariants as parse
 use Rattle.parsl_engine.specs.declared.evaluate.ScriptFault.{ScriptFault}
 use Rattle.parsl_engine.specs.declared.evaluate.ScriptFault.TheVariants.{NotYet, NoMemory}
 

@@ -3,7 +3,7 @@
 ghost use Rattle.parsl_engine.specs.Output.{Produces};
 
 use crate::evaluate::{ScriptFault, evaluate};
-use app_script::{ParseFault, parse};
+use app_script::parse::{ParseFault, parse};
 use run_report::head;
 use small_scripts::small_script;
 use std::alloc::Global;

@@ -1,7 +1,7 @@
 //! The top call.
 
 ghost use Rattle.std.specs.Prelude.{◌≡◌, None, IfSome};
-ghost use Rattle.parsl_engine.specs.Course.{Printed, Answers, Tells, Course, NoReading, status_of, line_of};
+ghost use Rattle.parsl_engine.specs.Course.{Printed, Answers, Tells, Course, NoReading, NamesAlone, status_of};
 ghost use Rattle.parsl_engine.specs.Words.{script_word};
 
 use crate::ending::Ending;
@@ -28,23 +28,21 @@ fn print<'a, O: Sink>(alloc: Global, bytes: &[u8], out: &mut O) -> Ending<'a>
     }
 }
 
-/// Runs the script of this name, and prints the head of its report.
-fn run<S: Shelf, O: Sink, E: Sink>(
+/// Reads the script of this name, and prints the head of its report.
+fn read_and_print<'a, S: Shelf, O: Sink>(
     alloc: Global,
-    name: &Word,
+    name: &'a Word,
     shelf: &mut S,
     out: &mut O,
-    err: &mut E,
-) -> u8
-    ensures course { Course name.now result S.tells O.tells (S.state shelf.old) (S.state shelf.new) (O.state out.old) (O.state out.new) }
-    ensures line { Tells name.now result E.tells (E.state err.old) (E.state err.new) }
+) -> Ending<'a>
+    ensures course { Course name.now (status_of result) S.tells O.tells (S.state shelf.old) (S.state shelf.new) (O.state out.old) (O.state out.new) }
+    ensures names { NamesAlone name.now result }
 {
-    let ending = match shelf.read(name.as_str(), READ_LIMIT) {
+    match shelf.read(name.as_str(), READ_LIMIT) {
         Ok(bytes) => print(alloc, &bytes, out),
         Err(ShelfFault::Failed) => Ending::Unread(name),
         Err(ShelfFault::NoMemory) => Ending::NoMemory,
-    };
-    ending.finish(err)
+    }
 }
 
 /// Carries out what the words of a command line mean, without the program's name, and gives the exit
@@ -63,7 +61,7 @@ pub fn parsl_top<S: Shelf, O: Sink, E: Sink>(
     ensures line { IfSome (script_word words.now) (λ name. Tells name result E.tells (E.state err.old) (E.state err.new)) }
 {
     match script_named(words) {
-        Some(name) => run(alloc, name, shelf, out, err),
+        Some(name) => read_and_print(alloc, name, shelf, out).finish(err),
         None => Ending::Words.finish(err),
     }
 }
