@@ -279,8 +279,9 @@ body-spelled ts y e =
     let v = bound _ (behind s.CloseBlock u.0.1) y u.2 in
     let end : r.0.1 ≡ t.Symbol s.Semicolon ∷ t.Symbol s.CloseBlock ∷ v.0.1 = behind-spelled s.Semicolon r.0.1 u.0 u.1 ∙ ap (λ z. t.Symbol s.Semicolon ∷ z) (behind-spelled s.CloseBlock u.0.1 v.0 v.1) in
     let sum : q.0.1 ≡ operand_token r.0.0.0 ∷ terms r.0.0.1 (t.Symbol s.Semicolon ∷ t.Symbol s.CloseBlock ∷ v.0.1) = sum-spelled q.0.1 r.0 r.1 ∙ ap (λ z. operand_token r.0.0.0 ∷ terms r.0.0.1 z) end in
-    same_spelling (λ z. body z.0.0 z.0.1 z.1) ts (r.0.0, v.0.1) y
-        (behind-spelled s.OpenBlock ts p.0 p.1 ∙ ap (λ z. t.Symbol s.OpenBlock ∷ z) (behind_word-spelled w.Return p.0.1 q.0 q.1 ∙ ap (λ z. t.Word w.Return ∷ z) sum)) v.2
+    let returned : p.0.1 ≡ t.Word w.Return ∷ operand_token r.0.0.0 ∷ terms r.0.0.1 (t.Symbol s.Semicolon ∷ t.Symbol s.CloseBlock ∷ v.0.1) = behind_word-spelled w.Return p.0.1 q.0 q.1 ∙ ap (λ z. t.Word w.Return ∷ z) sum in
+    let whole : ts ≡ body r.0.0.0 r.0.0.1 v.0.1 = behind-spelled s.OpenBlock ts p.0 p.1 ∙ ap (λ z. t.Symbol s.OpenBlock ∷ z) returned in
+    same_spelling (λ z. body z.0.0 z.0.1 z.1) ts (r.0.0, v.0.1) y whole v.2
 
 pub app-spelled : (ts : Tokens) (y : SmallApp × Tokens) → app_at ts ≡ Some y → ts ≡ app y.0 y.1
 unfolding app_at app
