@@ -277,10 +277,11 @@ body-spelled ts y e =
     let r = bound _ (sum_at q.0.1) y q.2 in
     let u = bound _ (behind s.Semicolon r.0.1) y r.2 in
     let v = bound _ (behind s.CloseBlock u.0.1) y u.2 in
-    let end = behind-spelled s.Semicolon r.0.1 u.0 u.1 ∙ ap (λ z. t.Symbol s.Semicolon ∷ z) (behind-spelled s.CloseBlock u.0.1 v.0 v.1) in
-    let sum = sum-spelled q.0.1 r.0 r.1 ∙ ap (λ z. operand_token r.0.0.0 ∷ terms r.0.0.1 z) end in
-    same_spelling (λ z. body z.0.0 z.0.1 z.1) ts (r.0.0, v.0.1) y
-        (behind-spelled s.OpenBlock ts p.0 p.1 ∙ ap (λ z. t.Symbol s.OpenBlock ∷ z) (behind_word-spelled w.Return p.0.1 q.0 q.1 ∙ ap (λ z. t.Word w.Return ∷ z) sum)) v.2
+    let end : r.0.1 ≡ t.Symbol s.Semicolon ∷ t.Symbol s.CloseBlock ∷ v.0.1 = behind-spelled s.Semicolon r.0.1 u.0 u.1 ∙ ap (λ z. t.Symbol s.Semicolon ∷ z) (behind-spelled s.CloseBlock u.0.1 v.0 v.1) in
+    let sum : q.0.1 ≡ operand_token r.0.0.0 ∷ terms r.0.0.1 (t.Symbol s.Semicolon ∷ t.Symbol s.CloseBlock ∷ v.0.1) = sum-spelled q.0.1 r.0 r.1 ∙ ap (λ z. operand_token r.0.0.0 ∷ terms r.0.0.1 z) end in
+    let returned : p.0.1 ≡ t.Word w.Return ∷ operand_token r.0.0.0 ∷ terms r.0.0.1 (t.Symbol s.Semicolon ∷ t.Symbol s.CloseBlock ∷ v.0.1) = behind_word-spelled w.Return p.0.1 q.0 q.1 ∙ ap (λ z. t.Word w.Return ∷ z) sum in
+    let whole : ts ≡ body r.0.0.0 r.0.0.1 v.0.1 = behind-spelled s.OpenBlock ts p.0 p.1 ∙ ap (λ z. t.Symbol s.OpenBlock ∷ z) returned in
+    same_spelling (λ z. body z.0.0 z.0.1 z.1) ts (r.0.0, v.0.1) y whole v.2
 
 pub app-spelled : (ts : Tokens) (y : SmallApp × Tokens) → app_at ts ≡ Some y → ts ≡ app y.0 y.1
 unfolding app_at app
@@ -309,8 +310,8 @@ call-spelled ts y e =
     let r = bound _ (behind_word w.Call q.0.1) y q.2 in
     let u = bound _ (called_at r.0.1) y r.2 in
     let v = bound _ (behind s.Semicolon u.0.1) y u.2 in
-    let called = called-spelled r.0.1 u.0 u.1 ∙ ap (λ z. t.Name u.0.0.0 ∷ t.Symbol s.OpenParen ∷ closed (map operand_token u.0.0.1) z) (behind-spelled s.Semicolon u.0.1 v.0 v.1) in
-    let equals = behind-spelled s.Assign p.0.1 q.0 q.1 ∙ ap (λ z. t.Symbol s.Assign ∷ z) (behind_word-spelled w.Call q.0.1 r.0 r.1 ∙ ap (λ z. t.Word w.Call ∷ z) called) in
+    let called : r.0.1 ≡ t.Name u.0.0.0 ∷ t.Symbol s.OpenParen ∷ closed (map operand_token u.0.0.1) (t.Symbol s.Semicolon ∷ v.0.1) = called-spelled r.0.1 u.0 u.1 ∙ ap (λ z. t.Name u.0.0.0 ∷ t.Symbol s.OpenParen ∷ closed (map operand_token u.0.0.1) z) (behind-spelled s.Semicolon u.0.1 v.0 v.1) in
+    let equals : p.0.1 ≡ t.Symbol s.Assign ∷ t.Word w.Call ∷ t.Name u.0.0.0 ∷ t.Symbol s.OpenParen ∷ closed (map operand_token u.0.0.1) (t.Symbol s.Semicolon ∷ v.0.1) = behind-spelled s.Assign p.0.1 q.0 q.1 ∙ ap (λ z. t.Symbol s.Assign ∷ z) (behind_word-spelled w.Call q.0.1 r.0 r.1 ∙ ap (λ z. t.Word w.Call ∷ z) called) in
     same_spelling (λ z. statement z.0 z.1) _ (small.Call p.0.0 u.0.0.0 u.0.0.1, v.0.1) y
         (ap (λ z. t.Word w.Let ∷ z) (name-spelled ts p.0 p.1 ∙ ap (λ z. t.Name p.0.0 ∷ z) equals)) v.2
 
@@ -322,8 +323,8 @@ print-spelled ts y e =
     let r = bound _ (name_at q.0.1) y q.2 in
     let u = bound _ (behind s.CloseParen r.0.1) y r.2 in
     let v = bound _ (behind s.Semicolon u.0.1) y u.2 in
-    let end = behind-spelled s.CloseParen r.0.1 u.0 u.1 ∙ ap (λ z. t.Symbol s.CloseParen ∷ z) (behind-spelled s.Semicolon u.0.1 v.0 v.1) in
-    let argument = behind-spelled s.OpenParen p.0.1 q.0 q.1 ∙ ap (λ z. t.Symbol s.OpenParen ∷ z) (name-spelled q.0.1 r.0 r.1 ∙ ap (λ z. t.Name r.0.0 ∷ z) end) in
+    let end : r.0.1 ≡ t.Symbol s.CloseParen ∷ t.Symbol s.Semicolon ∷ v.0.1 = behind-spelled s.CloseParen r.0.1 u.0 u.1 ∙ ap (λ z. t.Symbol s.CloseParen ∷ z) (behind-spelled s.Semicolon u.0.1 v.0 v.1) in
+    let argument : p.0.1 ≡ t.Symbol s.OpenParen ∷ t.Name r.0.0 ∷ t.Symbol s.CloseParen ∷ t.Symbol s.Semicolon ∷ v.0.1 = behind-spelled s.OpenParen p.0.1 q.0 q.1 ∙ ap (λ z. t.Symbol s.OpenParen ∷ z) (name-spelled q.0.1 r.0 r.1 ∙ ap (λ z. t.Name r.0.0 ∷ z) end) in
     same_spelling (λ z. statement z.0 z.1) _ (small.Print r.0.0, v.0.1) y
         (ap (λ z. t.Word w.Print ∷ z) (behind_name-spelled (codes "result") ts p.0 p.1 ∙ ap (λ z. t.Name (codes "result") ∷ z) argument)) v.2
 

@@ -75,3 +75,6 @@ pub fn parse(alloc: Global, bytes: &[u8]) -> Result<Script, ParseFault>
     let (apps, main) = tree(alloc, &small)?;
     Ok(Script::of(apps, main, places))
 }
+
+#[cfg(test)]
+mod tests;

@@ -13,7 +13,7 @@ use std::alloc::{AllocError, Global};
 
 /// Why no small script was read.
 #[derive(Debug, Drop)]
-pub enum Stop {
+enum Stop {
     NotSmall,
     NoMemory,
 }
