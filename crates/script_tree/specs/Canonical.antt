@@ -89,7 +89,8 @@ expr_text = record {
   post = λ e. e.atom ++ flat_map (λ f. codes "[" ++ (f ++ codes "]")) e.indices;
   sum = λ e. e.first ++ flat_map (λ f. sum_text f.0 ++ f.1) e.others;
   term = λ e. e.first ++ flat_map (λ f. term_text f.0 ++ f.1) e.others;
-  unary = λ e. sign_part e.op ++ e.post }
+  unary = λ e. sign_part e.op ++ e.post;
+}
 
 abbrev pub expr : Expr → Text
 expr = fold_expr expr_text

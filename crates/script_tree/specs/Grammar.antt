@@ -94,4 +94,4 @@ abbrev pub IsFault : Text → ℕ → ℕ → Type 0
 IsFault text kind place =
     ((max_text < length text) × (kind ≡ 6) × (place ≡ max_text))
     ⊎ ((length text ≤ max_text) × Faulty text kind place
-        × ((other at : ℕ) → Faulty text other at → (place < at) ⊎ ((place ≡ at) × (kind ≤ other))))
+    × ((other at : ℕ) → Faulty text other at → (place < at) ⊎ ((place ≡ at) × (kind ≤ other))))

@@ -93,7 +93,8 @@ expr_marks = record {
   post = λ e. e.atom ++ flat_map in_parens e.indices;
   sum = λ e. e.first ++ flat_map (λ f. Other ∷ f.1) e.others;
   term = λ e. e.first ++ flat_map (λ f. Other ∷ f.1) e.others;
-  unary = λ e. sign_part e.op ++ e.post }
+  unary = λ e. sign_part e.op ++ e.post;
+}
 
 abbrev pub expr : Expr → Marks
 expr = fold_expr expr_marks

@@ -90,7 +90,8 @@ expr_tokens = record {
   post = λ e. e.atom ++ flat_map (λ f. t.Symbol s.OpenList ∷ f ++ symbol s.CloseList) e.indices;
   sum = λ e. e.first ++ flat_map (λ f. t.Symbol (sum_symbol f.0) ∷ f.1) e.others;
   term = λ e. e.first ++ flat_map (λ f. t.Symbol (term_symbol f.0) ∷ f.1) e.others;
-  unary = λ e. sign_part e.op ++ e.post }
+  unary = λ e. sign_part e.op ++ e.post;
+}
 
 abbrev pub expr : Expr → Tokens
 expr = fold_expr expr_tokens

@@ -29,7 +29,9 @@ pub enum SmallStatement {
         arguments: Items<Operand>,
     },
     /// `print result(VARIABLE);`
-    Print { variable: Name },
+    Print {
+        variable: Name,
+    },
 }
 
 #[derive(Drop)]
