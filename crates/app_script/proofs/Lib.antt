@@ -14,3 +14,4 @@ pub mod Spelled
 pub mod Symbols
 pub mod Turns
 pub mod Wholes
+mod Lengths

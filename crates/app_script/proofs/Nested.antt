@@ -1,8 +1,7 @@
 -- The brackets of a small script are nested at most two deep.
-use Rattle.std.proofs.Common.{◌≡◌, ℕ, ◌+◌, ◌-◌, ◌≤◌, List, [], ◌∷◌, ◌++◌, map, fold, refl, sym, ap, ◌∙◌, subst, lit≤, arith}
+use Rattle.std.proofs.Common.{◌≡◌, ℕ, ◌-◌, ◌≤◌, List, [], ◌∷◌, ◌++◌, map, fold, refl, sym, ◌∙◌, subst, lit≤}
 use Rattle.script_tree.specs.declared.token.Token.{Token}
 use Rattle.script_tree.specs.declared.token.Token.TheVariants as t
-use Rattle.script_tree.specs.declared.token.Word.TheVariants as w
 use Rattle.script_tree.specs.declared.token.Symbol.TheVariants as s
 use Rattle.script_tree.specs.declared.small.Operand.{Operand}
 use Rattle.script_tree.specs.declared.small.Operand.TheVariants as operand
@@ -10,7 +9,7 @@ use Rattle.script_tree.specs.declared.small.SmallApp.{SmallApp}
 use Rattle.script_tree.specs.declared.small.SmallStatement.{SmallStatement}
 use Rattle.script_tree.specs.declared.small.SmallStatement.TheVariants as small
 use Rattle.script_tree.specs.declared.small.SmallScript.{SmallScript}
-use Rattle.script_tree.specs.Grammar.{nesting_after, nesting, max_nesting, IsNestedWithin}
+use Rattle.script_tree.specs.Grammar.{nesting_after, IsNestedWithin}
 use Rattle.script_tree.specs.Small.{tree_of}
 use Rattle.script_tree.specs.Spelling.{Tokens}
 use Rattle.script_tree.specs.Spelling as spelling

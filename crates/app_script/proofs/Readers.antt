@@ -1,5 +1,5 @@
 -- What the readers of single tokens tell the loops over lists.
-use Rattle.std.proofs.Common.{◌≡◌, ℕ, ◌+◌, ◌<◌, ◌≤◌, List, [], ◌∷◌, ◌++◌, length, drop, refl, sym, ap, ◌∙◌, subst, Bool, true, false, cond, if◌then◌else◌, Option, Some, None, arith, rules, add-one}
+use Rattle.std.proofs.Common.{◌≡◌, ℕ, ◌<◌, ◌≤◌, List, [], ◌∷◌, ◌++◌, length, drop, refl, ap, ◌∙◌, Bool, true, false, if◌then◌else◌, Option, Some, None, arith}
 use Rattle.std.proofs.lemmas.Option.{some_pair_parts}
 use Rattle.script_tree.specs.declared.token.Token.{Token}
 use Rattle.script_tree.specs.declared.token.Token.TheVariants as t
@@ -7,11 +7,11 @@ use Rattle.script_tree.specs.declared.token.Symbol.{Symbol}
 use Rattle.script_tree.specs.declared.token.Symbol.TheVariants as s
 use Rattle.script_tree.specs.declared.small.Operand.{Operand}
 use Rattle.script_tree.specs.Spelling.{Tokens}
-use Rattle.std.proofs.Common.{Result, Err}
+use Rattle.std.proofs.Common.{Err}
 use Rattle.app_script.specs.declared.small_reader.Stop.{Stop}
 use Rattle.app_script.specs.declared.small_reader.Stop.TheVariants.{NotSmall, NoMemory}
 use Rattle.script_tree.specs.declared.small.Operand.TheVariants as operand
-use Rattle.app_script.specs.Reading.{Read, Turn, Reads, Turns, ◌>>=◌, after_turn, comma_turn, plus_turn, is_symbol, behind_if, begins, behind, name_at, operand_at, name_of, operand_of, more_items, next_item, names_from, operands_from, terms_from, more_terms, next_term, name_turn, operand_turn, term_turn}
+use Rattle.app_script.specs.Reading.{Read, Turn, Reads, Turns, ◌>>=◌, after_turn, comma_turn, plus_turn, is_symbol, behind_if, begins, behind, name_at, operand_at, name_of, operand_of, more_items, next_item, names_from, operands_from, terms_from, next_term, name_turn, operand_turn, term_turn}
 
 pub behind-true : (k : Symbol) (ts : Tokens) → begins k ts ≡ true → length (drop 1 ts) < length ts
 unfolding begins
@@ -33,7 +33,6 @@ pub more-close : {A : Type 0} (item : Token → Option A) (given : List A) (ts :
 unfolding begins
 more-close item given [] e = absurd (cc e)
 more-close item given (x ∷ ts) e = rw e refl
-
 
 -- ---- the turns of the loops
 

@@ -1,7 +1,7 @@
 -- One small script for a list of tokens, and none where its reader stops.
-use Rattle.std.proofs.Common.{◌≡◌, ℕ, ◌+◌, ◌<◌, ◌≤◌, ◌==◌, List, [], ◌∷◌, ◌++◌, map, length, drop, refl, sym, ap, ◌∙◌, subst, Bool, true, false, if◌then◌else◌, Option, Some, None, Result, Ok, Err, arith, append_assoc, ◌⊎◌, inl, inr}
+use Rattle.std.proofs.Common.{◌≡◌, ◌<◌, ◌≤◌, ◌==◌, List, [], ◌∷◌, ◌++◌, map, length, drop, refl, sym, ap, ◌∙◌, subst, Bool, true, false, Option, Some, None, Err, arith}
 use Rattle.std.proofs.lemmas.Bool.Decides.{nat_tests}
-use Rattle.std.proofs.lemmas.Option.{some_pair_parts, same_Some}
+use Rattle.std.proofs.lemmas.Option.{some_pair_parts}
 use Rattle.script_tree.specs.declared.token.Token.{Token}
 use Rattle.script_tree.specs.declared.token.Token.TheVariants as t
 use Rattle.script_tree.specs.declared.token.Word.TheVariants as w
@@ -15,10 +15,10 @@ use Rattle.script_tree.specs.Spelling.{Tokens}
 use Rattle.app_script.specs.declared.small_reader.Stop.{Stop}
 use Rattle.app_script.specs.declared.small_reader.Stop.TheVariants.{NotSmall, NoMemory}
 use Rattle.app_script.specs.SmallTokens.{operand_token, closed, closed_more, terms, body, app, statement, each, apps, statements, script}
-use Rattle.app_script.specs.Reading.{Read, Reads, Turn, Turns, ◌>>=◌, begins, begins_word, behind, behind_if, behind_word, app_at, statement_at, app_turn, statement_turn, more_of, list_turn}
+use Rattle.app_script.specs.Reading.{Read, Reads, Turn, Turns, ◌>>=◌, begins, begins_word, behind, behind_word, app_at, statement_at, app_turn, statement_turn, more_of, list_turn}
 use Rattle.app_script.specs.Exactly.{Spelled, IsRead}
 use Rattle.app_script.proofs.Readers.{bound}
-use Rattle.app_script.proofs.Spelled.{chosen, begins-spelled, begins_word-spelled, behind-spelled, app-again, app-spelled, statement-again, statement-spelled}
+use Rattle.app_script.proofs.Spelled.{begins-spelled, begins_word-spelled, behind-spelled, app-again, app-spelled, statement-again, statement-spelled}
 
 -- ---- lists up to an end
 
@@ -106,10 +106,13 @@ module _ {A : Type 0} (spell : A → Tokens → Tokens) (read : Tokens → Read 
   item-goes given more b ts rest e =
       let p = bound _ (read ts) ((more, b), rest) e in
       let q = turn_parts (given ++ p.0.0 ∷ []) more true b p.0.1 rest p.2 in
-      let is : ts ≡ spell p.0.0 rest = spelled ts p.0 p.1 ∙ ap (spell p.0.0) q.2 in
-      (sym q.1, record {
-        spelled = ap (λ zs. each spell zs rest) (sym q.0) ∙ (each-more spell given p.0.0 rest ∙ ap (each spell given) (sym is));
-        shorter = subst (λ (zs : Tokens). length rest < length zs) (sym is) (longer p.0.0 rest) })
+      let is : ts ≡ spell p.0.0 rest = spelled ts p.0 p.1 ∙ ap (spell p.0.0) q.2 in (
+        sym q.1,
+        record {
+          spelled = ap (λ zs. each spell zs rest) (sym q.0) ∙ (each-more spell given p.0.0 rest ∙ ap (each spell given) (sym is));
+          shorter = subst (λ (zs : Tokens). length rest < length zs) (sym is) (longer p.0.0 rest);
+        },
+      )
 
   turn-goes : (ends : Bool) (given more : List A) (ts rest : Tokens) → list_turn read ends given ts ≡ Some ((more, true), rest) → Goes spell given ts more rest
   turn-goes true given more ts rest e = absurd (let f : false ≡ true = (turn_parts given more false true _ rest e).1 in cc f)

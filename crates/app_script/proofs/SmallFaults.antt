@@ -1,6 +1,6 @@
 -- A small script's tree breaks no static rule exactly where the tests on its parts say so.
-use Rattle.std.proofs.Common.{◌≡◌, ℕ, suc, ◌+◌, ◌≤◌, ◌<◌, Bool, true, false, not, ◌&&◌, ◌||◌, cond, if◌then◌else◌, List, [], ◌∷◌, ◌++◌, map, take, length, refl, ap, ◌∙◌, sym, subst, append-nil, append_assoc, codes, arith, Option, Some, None, ℤ}
-use Rattle.std.specs.Prelude.{◌↔◌, IsTrue, bytes_eq, nat_eq, nat_le, find}
+use Rattle.std.proofs.Common.{◌≡◌, ℕ, suc, ◌+◌, ◌≤◌, Bool, true, false, not, ◌&&◌, ◌||◌, cond, if◌then◌else◌, List, [], ◌∷◌, ◌++◌, map, take, length, refl, ap, ◌∙◌, sym, append_assoc, codes, arith, Option, Some}
+use Rattle.std.specs.Prelude.{◌↔◌, IsTrue, bytes_eq, nat_eq, nat_le}
 use Rattle.std.specs.List.{list_any, list_all}
 use Rattle.std.proofs.lemmas.Bool.Decides.{nat_tests}
 use Rattle.script_tree.specs.declared.tree.AppDef.{AppDef}
@@ -11,9 +11,9 @@ use Rattle.script_tree.specs.declared.small.SmallStatement.{SmallStatement}
 use Rattle.script_tree.specs.declared.small.SmallStatement.TheVariants as small
 use Rattle.script_tree.specs.declared.small.SmallScript.{SmallScript}
 use Rattle.script_tree.specs.BuiltIns.{built_in_named}
-use Rattle.script_tree.specs.Marks.{Name, Mark, Marks, Other, Opens, Closes, News, Shows, Uses, Applies, Calls, Names, Acts, Defines, Takes, Main}
+use Rattle.script_tree.specs.Marks.{Name, Marks, Other, Opens, Closes, Shows, Applies, Takes, Main}
 use Rattle.script_tree.specs.Rules.{State, Plain, OfMain, behind, kind_if, faults_at, faults_from, faults, call_faults, app_named, IsWellFormed, max_count}
-use Rattle.script_tree.specs.Small.{tree_of, app_of, main_of}
+use Rattle.script_tree.specs.Small.{tree_of, app_of}
 use Rattle.app_script.specs.SmallRules.{is_among, are_distinct_from, are_distinct, is_parameter, are_parameters, is_right_alone, is_defined, are_right_behind, apps_are_right, declares, is_declared, is_visible, are_visible, takes_from, takes, is_right, statements_are_right_behind, main_is_right, script_is_right}
 use Rattle.app_script.proofs.SmallMarks.{operand_mark, closed, closed_more, terms, body, parameters, app, apps, statement_in, statements, script, script-marks}
 
@@ -256,10 +256,10 @@ module _ (all : List AppDef) where
       let end : Bool = ok (plain (onto ns [])) rest in
       ap (λ b. b && ok (plain []) (closed (parameters 0 ns) (body a.first a.others rest))) (none-if_only (twice k a.name))
       ∙ (ap (λ b. not (twice k a.name) && b)
-          (ok-parameters 0 [] ns (body a.first a.others rest)
-          ∙ (ap (λ b. (b && differ [] ns) && ok (plain (onto ns [])) (body a.first a.others rest)) (fits-all ns)
-          ∙ (ap (λ b. (few && b) && ok (plain (onto ns [])) (body a.first a.others rest)) (differ-all ns)
-          ∙ ap (λ b. (few && are_distinct ns) && b) (ok-body ns a.first a.others rest))))
+      (ok-parameters 0 [] ns (body a.first a.others rest)
+      ∙ (ap (λ b. (b && differ [] ns) && ok (plain (onto ns [])) (body a.first a.others rest)) (fits-all ns)
+      ∙ (ap (λ b. (few && b) && ok (plain (onto ns [])) (body a.first a.others rest)) (differ-all ns)
+      ∙ ap (λ b. (few && are_distinct ns) && b) (ok-body ns a.first a.others rest))))
       ∙ regroup_app (not (twice k a.name)) few (are_distinct ns) (is_parameter ns a.first) (are_parameters ns a.others) end)
 
 -- ---- the apps of a small script
@@ -287,8 +287,8 @@ ok-apps s given (a ∷ xs) all rest e =
     let end : Bool = ok (map app_of all) (record { scopes = []; body = OfMain }) rest in
     let defined : twice (map app_of all) (length given) a.name ≡ is_defined given a.name = ap (λ zs. twice (map app_of zs) (length given) a.name) e ∙ twice-defined given (a ∷ xs) a.name in
     let next : ok (map app_of all) (plain (onto a.parameters [])) (apps (suc (length given)) xs (Main ∷ rest)) ≡ are_right_behind (given ++ a ∷ []) xs && end =
-        ap (λ n. ok (map app_of all) (plain (onto a.parameters [])) (apps n xs (Main ∷ rest))) (sym (length-one_more given a))
-        ∙ ok-apps (plain (onto a.parameters [])) (given ++ a ∷ []) xs all rest (e ∙ sym (append_assoc given (a ∷ []) xs)) in
+    ap (λ n. ok (map app_of all) (plain (onto a.parameters [])) (apps n xs (Main ∷ rest))) (sym (length-one_more given a))
+    ∙ ok-apps (plain (onto a.parameters [])) (given ++ a ∷ []) xs all rest (e ∙ sym (append_assoc given (a ∷ []) xs)) in
     ok-app (map app_of all) s (length given) a (apps (suc (length given)) xs (Main ∷ rest))
     ∙ (ap (λ b. (not b && is_right_alone a) && ok (map app_of all) (plain (onto a.parameters [])) (apps (suc (length given)) xs (Main ∷ rest))) defined
     ∙ (ap (λ b. (not (is_defined given a.name) && is_right_alone a) && b) next
@@ -335,7 +335,7 @@ module _ (xs : List SmallApp) where
       ap (λ b. b && (called && seen)) (none-if (any names variable || false) 7 ∙ ap not (or-false (any names variable) ∙ same variable))
       ∙ (ap (λ b. not (is_declared given variable) && (b && seen)) (none-call xs name (length arguments))
       ∙ (ap (λ b. not (is_declared given variable) && (takes xs name (length arguments) && b))
-          (ok-closed (map app_of xs) s arguments (Shows variable ∷ rest) ∙ ap (λ b. b && end) (all-same (sees s) (is_visible given) (sees-visible names given same) arguments))
+      (ok-closed (map app_of xs) s arguments (Shows variable ∷ rest) ∙ ap (λ b. b && end) (all-same (sees s) (is_visible given) (sees-visible names given same) arguments))
       ∙ regroup_call (not (is_declared given variable)) (takes xs name (length arguments)) (are_visible given arguments) end))
 
   ok-print : (names : List Name) (given : List SmallStatement) (variable : Name) (rest : Marks) → Declared names given
@@ -361,11 +361,11 @@ module _ (xs : List SmallApp) where
   ok-statements names given (small.Call variable name arguments ∷ ys) same =
       ok-call names given variable name arguments (statements ys (Closes ∷ [])) same
       ∙ ap (λ b. is_right xs given (small.Call variable name arguments) && b)
-          (ok-statements (variable ∷ names) (given ++ small.Call variable name arguments ∷ []) ys (declared-call names given variable name arguments same))
+      (ok-statements (variable ∷ names) (given ++ small.Call variable name arguments ∷ []) ys (declared-call names given variable name arguments same))
   ok-statements names given (small.Print variable ∷ ys) same =
       ok-print names given variable (statements ys (Closes ∷ [])) same
       ∙ ap (λ b. is_right xs given (small.Print variable) && b)
-          (ok-statements names (given ++ small.Print variable ∷ []) ys (declared-print names given variable same))
+      (ok-statements names (given ++ small.Print variable ∷ []) ys (declared-print names given variable same))
 
 -- ---- a whole script
 
@@ -384,5 +384,6 @@ faults-marks x = ap (faults_from (map app_of x.apps) [] 0 begin) (script-marks x
 
 pub right-well_formed : (x : SmallScript) → IsTrue (script_is_right x) ↔ IsWellFormed (tree_of x)
 right-well_formed x = (
-    λ e. faults-marks x ∙ ok-no_faults (map app_of x.apps) [] 0 begin (script x) (ok-script x ∙ e),
-    λ e. sym (ok-script x) ∙ no_faults-ok (map app_of x.apps) [] 0 begin (script x) (sym (faults-marks x) ∙ e))
+  λ e. faults-marks x ∙ ok-no_faults (map app_of x.apps) [] 0 begin (script x) (ok-script x ∙ e),
+  λ e. sym (ok-script x) ∙ no_faults-ok (map app_of x.apps) [] 0 begin (script x) (sym (faults-marks x) ∙ e),
+)

@@ -1,41 +1,28 @@
 -- What a fold over a tree makes of the parts of a small script's tree.
-use Rattle.std.proofs.Common.{◌≡◌, ℕ, List, [], ◌∷◌, ◌++◌, map, refl, ap, ◌∙◌, sym, Option, Some, None, append-nil, append_assoc, codes, true, false}
+use Rattle.std.proofs.Common.{◌≡◌, ℕ, List, [], ◌∷◌, map, refl, ap, ◌∙◌, sym, None, codes}
 use Rattle.std.specs.Prelude.{ℤ}
-use Rattle.std.specs.List.{flat_map}
-use Rattle.std.proofs.lemmas.List.Folds.{flat_map-map}
-use Rattle.script_tree.specs.declared.token.Token.{Token}
-use Rattle.script_tree.specs.declared.token.Token.TheVariants as t
-use Rattle.script_tree.specs.declared.token.Word.TheVariants as w
-use Rattle.script_tree.specs.declared.token.Symbol.TheVariants as s
 use Rattle.script_tree.specs.declared.tree.SumOp.{SumOp}
 use Rattle.script_tree.specs.declared.tree.SumOp.TheVariants.{Plus}
-use Rattle.script_tree.specs.declared.tree.Atom.TheOpen.{Atom-F, Added-F, CallExpr-F, Comp-F, Conj-F, Expr-F, Post-F, Sum-F, Term-F, Unary-F}
+use Rattle.script_tree.specs.declared.tree.Atom.TheOpen.{Atom-F}
 use Rattle.script_tree.specs.declared.tree.Atom.{Atom, fold-roll-Atom}
 use Rattle.script_tree.specs.declared.tree.Atom.TheVariants as a
 use Rattle.script_tree.specs.declared.tree.Added.{Added, roll-Added, fold-roll-Added}
 use Rattle.script_tree.specs.declared.tree.CallExpr.{CallExpr, roll-CallExpr, fold-roll-CallExpr}
 use Rattle.script_tree.specs.declared.tree.Comp.{Comp, roll-Comp, fold-roll-Comp}
-use Rattle.script_tree.specs.declared.tree.Compared.{Compared}
 use Rattle.script_tree.specs.declared.tree.Conj.{Conj, roll-Conj, fold-roll-Conj}
 use Rattle.script_tree.specs.declared.tree.Expr.{Expr, roll-Expr, fold-roll-Expr}
-use Rattle.script_tree.specs.declared.tree.Factor.{Factor}
 use Rattle.script_tree.specs.declared.tree.Post.{Post, roll-Post, fold-roll-Post}
 use Rattle.script_tree.specs.declared.tree.Sum.{Sum, roll-Sum, fold-roll-Sum}
 use Rattle.script_tree.specs.declared.tree.Term.{Term, roll-Term, fold-roll-Term}
 use Rattle.script_tree.specs.declared.tree.Unary.{Unary, roll-Unary, fold-roll-Unary}
-use Rattle.script_tree.specs.declared.tree.Block.{Block, roll-Block, fold-roll-Block}
+use Rattle.script_tree.specs.declared.tree.Block.{roll-Block, fold-roll-Block}
 use Rattle.script_tree.specs.declared.tree.Statement.{Statement, fold-roll-Statement}
 use Rattle.script_tree.specs.declared.tree.Statement.TheVariants as statement
 use Rattle.script_tree.specs.declared.tree.Statement.TheOpen.{Statement-F}
-use Rattle.script_tree.specs.declared.tree.AppDef.{AppDef}
 use Rattle.script_tree.specs.declared.small.Operand.{Operand}
 use Rattle.script_tree.specs.declared.small.Operand.TheVariants as operand
-use Rattle.script_tree.specs.declared.small.SmallApp.{SmallApp}
-use Rattle.script_tree.specs.declared.small.SmallStatement.{SmallStatement}
-use Rattle.script_tree.specs.declared.small.SmallStatement.TheVariants as small
-use Rattle.script_tree.specs.declared.small.SmallScript.{SmallScript}
 use Rattle.script_tree.specs.Folds.{Steps, fold_atom, fold_added, fold_call, fold_comp, fold_compared, fold_conj, fold_expr, fold_factor, fold_post, fold_sum, fold_term, fold_unary, BlockSteps, fold_block, fold_statement}
-use Rattle.script_tree.specs.Small.{term_of, expr_of, alone, operand_atom, plus_operand, sum_expr, operand_expr, call_expr, result_expr, statement_of, app_body, app_of, main_of, tree_of}
+use Rattle.script_tree.specs.Small.{term_of, expr_of, alone, operand_atom, plus_operand, sum_expr, operand_expr, call_expr, result_expr}
 
 module _ {C : Type 0} (s : Steps C) where
   post-rolled : (x : Atom) → fold_post s (roll-Post (record { atom = x; indices = [] })) ≡ s.post (record { atom = fold_atom s x; indices = [] })

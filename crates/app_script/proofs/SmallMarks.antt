@@ -1,9 +1,8 @@
 -- The marks of a small script's tree, each part in front of a rest.
-use Rattle.std.proofs.Common.{◌≡◌, ℕ, suc, ◌+◌, List, [], ◌∷◌, ◌++◌, map, length, refl, ap, ◌∙◌, sym, append-nil, append_assoc, codes}
+use Rattle.std.proofs.Common.{◌≡◌, ℕ, suc, List, [], ◌∷◌, ◌++◌, map, length, refl, ap, ◌∙◌, sym, append-nil, append_assoc, codes}
 use Rattle.std.specs.List.{flat_map}
 use Rattle.script_tree.specs.declared.tree.SumOp.{SumOp}
 use Rattle.script_tree.specs.declared.tree.Statement.TheVariants as statement
-use Rattle.script_tree.specs.declared.tree.AppDef.{AppDef}
 use Rattle.script_tree.specs.declared.small.Operand.{Operand}
 use Rattle.script_tree.specs.declared.small.Operand.TheVariants as operand
 use Rattle.script_tree.specs.declared.small.SmallApp.{SmallApp}
@@ -13,7 +12,7 @@ use Rattle.script_tree.specs.declared.small.SmallScript.{SmallScript}
 use Rattle.script_tree.specs.Folds.{fold_statement}
 use Rattle.script_tree.specs.Marks.{Name, Mark, Marks, InBlock, Other, Opens, Closes, News, Shows, Uses, Applies, Calls, Names, Acts, Defines, Takes, Main, expr_marks, block_marks, listed, parameters_from, apps_from, expr, block}
 use Rattle.script_tree.specs.Marks as marks
-use Rattle.script_tree.specs.Small.{sum_expr, operand_expr, call_expr, result_expr, statement_of, app_body, app_of, main_of, tree_of}
+use Rattle.script_tree.specs.Small.{sum_expr, call_expr, result_expr, statement_of, app_body, app_of, main_of, tree_of}
 use Rattle.app_script.proofs.SmallFolds.{whole, atom_term, operand_step, plus_steps, argument_steps, sum_expr-folded, call_expr-folded, result_expr-folded, block-folded, let-folded, print-folded, return-folded}
 
 -- ---- the lists
@@ -85,7 +84,7 @@ alone-marks x = whole-marks (atom_term expr_marks x) [] ∙ (append-nil ((x ++ [
 sum-marks : (first : Operand) (others : List Operand) (rest : Marks) → expr (sum_expr first others) ++ rest ≡ operand_mark first ∷ terms others rest
 sum-marks first others rest =
     ap (λ zs. zs ++ rest) (sum_expr-folded expr_marks first others ∙ (whole-marks (operand_step expr_marks first) (plus_steps expr_marks others)
-        ∙ ap (λ zs. zs ++ pluses (plus_steps expr_marks others)) (operand-marks first)))
+    ∙ ap (λ zs. zs ++ pluses (plus_steps expr_marks others)) (operand-marks first)))
     ∙ ap (λ zs. operand_mark first ∷ zs) (terms-marks others rest)
 
 more_arguments-marks : (os : List Operand) (rest : Marks) → flat_map (λ f. Other ∷ f) (argument_steps expr_marks os) ++ (Other ∷ rest) ≡ closed_more (map operand_mark os) rest
@@ -142,7 +141,7 @@ body-marks first others rest =
     let in_block : InBlock → InBlock = λ f names. Opens names ∷ (f [] ++ []) ++ Closes ∷ [] in
     let returned : Marks = Other ∷ sum ++ Other ∷ [] in
     ap (λ (f : InBlock). f [] ++ rest) (block-folded block_marks (statement.Return (sum_expr first others) ∷ [])
-        ∙ ap in_block (return-folded block_marks (sum_expr first others)))
+    ∙ ap in_block (return-folded block_marks (sum_expr first others)))
     ∙ (append_assoc (Opens [] ∷ returned ++ []) (Closes ∷ []) rest
     ∙ (ap (λ z. Opens [] ∷ z ++ Closes ∷ rest) (append-nil returned)
     ∙ (ap (λ z. Opens [] ∷ z) (append_assoc (Other ∷ sum) (Other ∷ []) (Closes ∷ rest))
@@ -163,7 +162,7 @@ app-marks k a rest =
     let tail : Marks = block (app_body a.first a.others) in
     append_assoc (head ++ Other ∷ []) tail rest ∙ (append_assoc head (Other ∷ []) (tail ++ rest)
     ∙ ap (λ zs. Other ∷ Defines k (app_of a) ∷ Other ∷ zs)
-        (ap (λ zs. listed (parameters_from 0 a.parameters) ++ (Other ∷ zs)) (body-marks a.first a.others rest) ∙ parameters-marks 0 a.parameters _))
+    (ap (λ zs. listed (parameters_from 0 a.parameters) ++ (Other ∷ zs)) (body-marks a.first a.others rest) ∙ parameters-marks 0 a.parameters _))
 
 apps-marks : (k : ℕ) (xs : List SmallApp) (rest : Marks) → apps_from k (map app_of xs) ++ rest ≡ apps k xs rest
 apps-marks k [] rest = refl

@@ -1,9 +1,6 @@
 -- The tokens of a small script's tree are those of the small script.
-use Rattle.std.proofs.Common.{◌≡◌, ℕ, List, [], ◌∷◌, ◌++◌, map, refl, ap, ◌∙◌, sym, Option, Some, None, append-nil, append_assoc, codes, true, false}
-use Rattle.std.specs.Prelude.{ℤ}
+use Rattle.std.proofs.Common.{◌≡◌, ℕ, List, [], ◌∷◌, ◌++◌, map, refl, ap, ◌∙◌, sym, append-nil, append_assoc, codes}
 use Rattle.std.specs.List.{flat_map}
-use Rattle.std.proofs.lemmas.List.Folds.{flat_map-map}
-use Rattle.script_tree.specs.declared.token.Token.{Token}
 use Rattle.script_tree.specs.declared.token.Token.TheVariants as t
 use Rattle.script_tree.specs.declared.token.Word.TheVariants as w
 use Rattle.script_tree.specs.declared.token.Symbol.TheVariants as s
@@ -18,9 +15,9 @@ use Rattle.script_tree.specs.declared.small.SmallScript.{SmallScript}
 use Rattle.script_tree.specs.Folds.{fold_statement}
 use Rattle.script_tree.specs.Spelling.{Tokens, expr_tokens, block_tokens, listed, names_of, sum_symbol, expr, call, block}
 use Rattle.script_tree.specs.Spelling as spelling
-use Rattle.script_tree.specs.Small.{term_of, expr_of, alone, operand_atom, plus_operand, sum_expr, operand_expr, call_expr, result_expr, statement_of, app_body, app_of, main_of, tree_of}
+use Rattle.script_tree.specs.Small.{sum_expr, call_expr, result_expr, statement_of, app_body, app_of, main_of, tree_of}
 use Rattle.app_script.proofs.SmallFolds.{whole, atom_term, operand_step, plus_steps, argument_steps, sum_expr-folded, call_expr-folded, result_expr-folded, block-folded, let-folded, print-folded, return-folded}
-use Rattle.app_script.specs.SmallTokens.{operand_token, closed, closed_more, terms, body, app, statement, each, apps, statements, script}
+use Rattle.app_script.specs.SmallTokens.{operand_token, closed, closed_more, terms, body, app, statement, each, statements, script}
 
 -- ---- expressions
 
@@ -43,7 +40,7 @@ alone-tokens x = whole-tokens (atom_term expr_tokens x) [] ∙ (append-nil ((x +
 pub sum-tokens : (first : Operand) (others : List Operand) (rest : Tokens) → expr (sum_expr first others) ++ rest ≡ operand_token first ∷ terms others rest
 sum-tokens first others rest =
     ap (λ zs. zs ++ rest) (sum_expr-folded expr_tokens first others ∙ (whole-tokens (operand_step expr_tokens first) (plus_steps expr_tokens others)
-        ∙ ap (λ zs. zs ++ flat_map (λ (f : SumOp × Tokens). t.Symbol (sum_symbol f.0) ∷ f.1) (plus_steps expr_tokens others)) (operand-tokens first)))
+    ∙ ap (λ zs. zs ++ flat_map (λ (f : SumOp × Tokens). t.Symbol (sum_symbol f.0) ∷ f.1) (plus_steps expr_tokens others)) (operand-tokens first)))
     ∙ ap (λ zs. operand_token first ∷ zs) (terms-tokens others rest)
 
 more_arguments-tokens : (os : List Operand) (rest : Tokens) → flat_map (λ f. t.Symbol s.Comma ∷ f) (argument_steps expr_tokens os) ++ (t.Symbol s.CloseParen ∷ rest) ≡ closed_more (map operand_token os) rest
@@ -110,7 +107,7 @@ app-tokens a rest =
     let head : Tokens = t.Word w.App ∷ t.Name a.name ∷ t.Symbol s.OpenParen ∷ listed (names_of a.parameters) in
     let tail : Tokens = block (app_body a.first a.others) in
     append_assoc (head ++ t.Symbol s.CloseParen ∷ []) tail rest ∙ (append_assoc head (t.Symbol s.CloseParen ∷ []) (tail ++ rest) ∙ ap (λ zs. t.Word w.App ∷ t.Name a.name ∷ t.Symbol s.OpenParen ∷ zs)
-        (ap (λ zs. listed (names_of a.parameters) ++ (t.Symbol s.CloseParen ∷ zs)) (body-tokens a.first a.others rest) ∙ names-tokens a.parameters _))
+    (ap (λ zs. listed (names_of a.parameters) ++ (t.Symbol s.CloseParen ∷ zs)) (body-tokens a.first a.others rest) ∙ names-tokens a.parameters _))
 
 apps-tokens : (xs : List SmallApp) (rest : Tokens) → flat_map spelling.app (map app_of xs) ++ rest ≡ each app xs rest
 apps-tokens [] rest = refl

@@ -1,10 +1,10 @@
 -- What is read of a small script is spelled so, and what is spelled so is read.
-use Rattle.std.proofs.Common.{◌≡◌, ℕ, ◌+◌, ◌<◌, ◌≤◌, List, [], ◌∷◌, ◌++◌, map, length, drop, refl, sym, ap, ◌∙◌, subst, Bool, true, false, cond, if◌then◌else◌, Option, Some, None, Result, Ok, Err, arith, rules, append_assoc, append-nil, codes}
+use Rattle.std.proofs.Common.{◌≡◌, ℕ, List, [], ◌∷◌, ◌++◌, map, drop, refl, sym, ap, ◌∙◌, Bool, true, false, if◌then◌else◌, Option, Some, append_assoc, append-nil, codes}
 use Rattle.std.proofs.lemmas.Option.{same_Some}
 use Rattle.std.proofs.Common.{◌⊎◌, inl, inr}
 use Rattle.app_script.proofs.Readers.{bound}
 use Rattle.std.proofs.lemmas.Slice.Eq.{bytes_eq-Decides}
-use denote.Enum.Bare.{sameb, same_true}
+use denote.Enum.Bare.{same_true}
 use Rattle.script_tree.specs.contracts.token.Symbol as symbol
 use Rattle.script_tree.specs.contracts.token.Word as word
 use Rattle.script_tree.specs.declared.token.Token.{Token}
@@ -20,7 +20,7 @@ use Rattle.script_tree.specs.declared.small.SmallStatement.{SmallStatement}
 use Rattle.script_tree.specs.declared.small.SmallStatement.TheVariants as small
 use Rattle.script_tree.specs.Spelling.{Tokens}
 use Rattle.app_script.specs.SmallTokens.{operand_token, closed, closed_more, terms, body, app, statement}
-use Rattle.app_script.specs.Reading.{Read, ◌>>=◌, is_symbol, is_word, is_name, behind_if, begins, begins_word, begins_name, behind, behind_word, behind_name, name_at, operand_at, name_of, operand_of, more_items, next_item, names_at, operands_at, names_from, operands_from, terms_from, more_terms, next_term, head_at, sum_at, body_at, app_at, called_at, call_at, print_at, statement_at}
+use Rattle.app_script.specs.Reading.{is_symbol, is_word, behind_if, begins, begins_word, begins_name, behind, behind_word, behind_name, name_at, operand_at, name_of, operand_of, more_items, next_item, names_at, operands_at, names_from, operands_from, terms_from, more_terms, next_term, head_at, sum_at, body_at, app_at, called_at, call_at, print_at, statement_at}
 
 -- ---- what is spelled so is read
 
@@ -167,16 +167,20 @@ module _ {A : Type 0} (item : Token → Option A) (token : A → Token) (is : (k
     more-spelled : (given : List A) (ts : Tokens) (y : List A × Tokens) → more_items item given ts ≡ Some y → Closes token given ts y
     more-spelled given [] y e = absurd (cc e)
     more-spelled given (k ∷ ts) y e = elim (chosen (is_symbol s.CloseParen k) _ _ _ e) [
-        inl p ↦ record {
-          more = [];
-          all = sym (ap (λ (r : List A × Tokens). r.0) (same_Some _ y p.1)) ∙ sym (append-nil given);
-          spelled = ap (λ z. z ∷ ts) (symbol-spelled s.CloseParen k p.0) ∙ ap (λ (r : List A × Tokens). t.Symbol s.CloseParen ∷ r.1) (same_Some _ y p.1) }
+      | inl p ↦ record {
+        more = [];
+        all = sym (ap (λ (r : List A × Tokens). r.0) (same_Some _ y p.1)) ∙ sym (append-nil given);
+        spelled = ap (λ z. z ∷ ts) (symbol-spelled s.CloseParen k p.0) ∙ ap (λ (r : List A × Tokens). t.Symbol s.CloseParen ∷ r.1) (same_Some _ y p.1);
+      }
       | inr p ↦ elim (chosen (is_symbol s.Comma k) _ _ _ p.1) [
-          inl q ↦ let o = next-spelled given ts y q.1 in record {
-            more = o.first ∷ o.more;
-            all = o.all;
-            spelled = ap (λ z. z ∷ ts) (symbol-spelled s.Comma k q.0) ∙ ap (λ z. t.Symbol s.Comma ∷ z) o.spelled }
-        | inr q ↦ absurd (cc q.1) ] ]
+        | inl q ↦ let o = next-spelled given ts y q.1 in record {
+          more = o.first ∷ o.more;
+          all = o.all;
+          spelled = ap (λ z. z ∷ ts) (symbol-spelled s.Comma k q.0) ∙ ap (λ z. t.Symbol s.Comma ∷ z) o.spelled;
+        }
+        | inr q ↦ absurd (cc q.1)
+      ]
+    ]
 
     next-spelled : (given : List A) (ts : Tokens) (y : List A × Tokens) → next_item item given ts ≡ Some y → Opens token given ts y
     next-spelled given [] y e = absurd (cc e)
@@ -186,7 +190,8 @@ module _ {A : Type 0} (item : Token → Option A) (token : A → Token) (is : (k
           first = p.0;
           more = c.more;
           all = c.all ∙ append_assoc given (p.0 ∷ []) c.more;
-          spelled = ap (λ z. z ∷ ts) (is k p.0 p.1) ∙ ap (λ z. token p.0 ∷ z) c.spelled }
+          spelled = ap (λ z. z ∷ ts) (is k p.0 p.1) ∙ ap (λ z. token p.0 ∷ z) c.spelled;
+        }
 
 name_of-spelled : (k : Token) (x : List ℕ) → name_of k ≡ Some x → k ≡ t.Name x
 name_of-spelled (t.Name n) x e = ap t.Name (same_Some n x e)
@@ -212,14 +217,16 @@ none-spelled token ts rest y e f = same_spelling (λ z. closed (map token z.0) z
 names-spelled : (ts : Tokens) (y : List (List ℕ) × Tokens) → names_at ts ≡ Some y → ts ≡ closed (map t.Name y.0) y.1
 unfolding names_at names_from
 names-spelled ts y e = elim (chosen (begins s.CloseParen ts) _ _ _ e) [
-    inl p ↦ none-spelled t.Name ts (drop 1 ts) y (begins-spelled s.CloseParen ts p.0) p.1
-  | inr p ↦ opened t.Name ts y (next-spelled name_of t.Name name_of-spelled [] ts y p.1) ]
+  | inl p ↦ none-spelled t.Name ts (drop 1 ts) y (begins-spelled s.CloseParen ts p.0) p.1
+  | inr p ↦ opened t.Name ts y (next-spelled name_of t.Name name_of-spelled [] ts y p.1)
+]
 
 operands-spelled : (ts : Tokens) (y : List Operand × Tokens) → operands_at ts ≡ Some y → ts ≡ closed (map operand_token y.0) y.1
 unfolding operands_at operands_from
 operands-spelled ts y e = elim (chosen (begins s.CloseParen ts) _ _ _ e) [
-    inl p ↦ none-spelled operand_token ts (drop 1 ts) y (begins-spelled s.CloseParen ts p.0) p.1
-  | inr p ↦ opened operand_token ts y (next-spelled operand_of operand_token operand_of-spelled [] ts y p.1) ]
+  | inl p ↦ none-spelled operand_token ts (drop 1 ts) y (begins-spelled s.CloseParen ts p.0) p.1
+  | inr p ↦ opened operand_token ts y (next-spelled operand_of operand_token operand_of-spelled [] ts y p.1)
+]
 
 record Adds (given : List Operand) (ts : Tokens) (y : List Operand × Tokens) : Type 0 where
   more : List Operand
@@ -230,14 +237,16 @@ no_more : (given : List Operand) (ts : Tokens) (y : List Operand × Tokens) → 
 no_more given ts y e = record {
   more = [];
   all = sym (ap (λ (r : List Operand × Tokens). r.0) (same_Some (given, ts) y e)) ∙ sym (append-nil given);
-  spelled = ap (λ (r : List Operand × Tokens). r.1) (same_Some (given, ts) y e) }
+  spelled = ap (λ (r : List Operand × Tokens). r.1) (same_Some (given, ts) y e);
+}
 
 mutual
   more_terms-spelled : (given : List Operand) (ts : Tokens) (y : List Operand × Tokens) → more_terms given ts ≡ Some y → Adds given ts y
   more_terms-spelled given [] y e = no_more given [] y e
   more_terms-spelled given (k ∷ ts) y e = elim (chosen (is_symbol s.Plus k) _ _ _ e) [
-      inl p ↦ let q = next_term-spelled k given ts y p.1 in record { more = q.more; all = q.all; spelled = ap (λ z. z ∷ ts) (symbol-spelled s.Plus k p.0) ∙ q.spelled }
-    | inr p ↦ no_more given (k ∷ ts) y p.1 ]
+    | inl p ↦ let q = next_term-spelled k given ts y p.1 in record { more = q.more; all = q.all; spelled = ap (λ z. z ∷ ts) (symbol-spelled s.Plus k p.0) ∙ q.spelled }
+    | inr p ↦ no_more given (k ∷ ts) y p.1
+  ]
 
   next_term-spelled : (k : Token) (given : List Operand) (ts : Tokens) (y : List Operand × Tokens) → next_term given ts ≡ Some y → Adds given (t.Symbol s.Plus ∷ ts) y
   next_term-spelled k given [] y e = absurd (cc e)
@@ -246,7 +255,8 @@ mutual
       let c = more_terms-spelled (given ++ p.0 ∷ []) ts y p.2 in record {
         more = p.0 ∷ c.more;
         all = c.all ∙ append_assoc given (p.0 ∷ []) c.more;
-        spelled = ap (λ z. t.Symbol s.Plus ∷ z ∷ ts) (operand_of-spelled o p.0 p.1) ∙ ap (λ z. t.Symbol s.Plus ∷ operand_token p.0 ∷ z) c.spelled }
+        spelled = ap (λ z. t.Symbol s.Plus ∷ z ∷ ts) (operand_of-spelled o p.0 p.1) ∙ ap (λ z. t.Symbol s.Plus ∷ operand_token p.0 ∷ z) c.spelled;
+      }
 
 terms-spelled : (ts : Tokens) (y : List Operand × Tokens) → terms_from [] ts ≡ Some y → ts ≡ terms y.0 y.1
 unfolding terms_from
@@ -259,7 +269,7 @@ head-spelled ts y e =
     let q = bound _ (behind s.OpenParen p.0.1) y p.2 in
     let r = bound _ (names_at q.0.1) y q.2 in
     same_spelling (λ z. t.Name z.0.0 ∷ t.Symbol s.OpenParen ∷ closed (map t.Name z.0.1) z.1) ts ((p.0.0, r.0.0), r.0.1) y
-        (name-spelled ts p.0 p.1 ∙ ap (λ z. t.Name p.0.0 ∷ z) (behind-spelled s.OpenParen p.0.1 q.0 q.1 ∙ ap (λ z. t.Symbol s.OpenParen ∷ z) (names-spelled q.0.1 r.0 r.1))) r.2
+    (name-spelled ts p.0 p.1 ∙ ap (λ z. t.Name p.0.0 ∷ z) (behind-spelled s.OpenParen p.0.1 q.0 q.1 ∙ ap (λ z. t.Symbol s.OpenParen ∷ z) (names-spelled q.0.1 r.0 r.1))) r.2
 
 sum-spelled : (ts : Tokens) (y : (Operand × List Operand) × Tokens) → sum_at ts ≡ Some y → ts ≡ operand_token y.0.0 ∷ terms y.0.1 y.1
 unfolding sum_at
@@ -267,7 +277,7 @@ sum-spelled ts y e =
     let p = bound _ (operand_at ts) y e in
     let q = bound _ (terms_from [] p.0.1) y p.2 in
     same_spelling (λ z. operand_token z.0.0 ∷ terms z.0.1 z.1) ts ((p.0.0, q.0.0), q.0.1) y
-        (operand-spelled ts p.0 p.1 ∙ ap (λ z. operand_token p.0.0 ∷ z) (terms-spelled p.0.1 q.0 q.1)) q.2
+    (operand-spelled ts p.0 p.1 ∙ ap (λ z. operand_token p.0.0 ∷ z) (terms-spelled p.0.1 q.0 q.1)) q.2
 
 body-spelled : (ts : Tokens) (y : (Operand × List Operand) × Tokens) → body_at ts ≡ Some y → ts ≡ body y.0.0 y.0.1 y.1
 unfolding body_at
@@ -291,7 +301,7 @@ app-spelled ts y e =
     let r = bound _ (body_at q.0.1) y q.2 in
     let head = head-spelled p.0.1 q.0 q.1 ∙ ap (λ z. t.Name q.0.0.0 ∷ t.Symbol s.OpenParen ∷ closed (map t.Name q.0.0.1) z) (body-spelled q.0.1 r.0 r.1) in
     same_spelling (λ z. app z.0 z.1) ts (record { name = q.0.0.0; parameters = q.0.0.1; first = r.0.0.0; others = r.0.0.1 }, r.0.1) y
-        (behind_word-spelled w.App ts p.0 p.1 ∙ ap (λ z. t.Word w.App ∷ z) head) r.2
+    (behind_word-spelled w.App ts p.0 p.1 ∙ ap (λ z. t.Word w.App ∷ z) head) r.2
 
 called-spelled : (ts : Tokens) (y : (List ℕ × List Operand) × Tokens) → called_at ts ≡ Some y → ts ≡ t.Name y.0.0 ∷ t.Symbol s.OpenParen ∷ closed (map operand_token y.0.1) y.1
 unfolding called_at
@@ -300,7 +310,7 @@ called-spelled ts y e =
     let q = bound _ (behind s.OpenParen p.0.1) y p.2 in
     let r = bound _ (operands_at q.0.1) y q.2 in
     same_spelling (λ z. t.Name z.0.0 ∷ t.Symbol s.OpenParen ∷ closed (map operand_token z.0.1) z.1) ts ((p.0.0, r.0.0), r.0.1) y
-        (name-spelled ts p.0 p.1 ∙ ap (λ z. t.Name p.0.0 ∷ z) (behind-spelled s.OpenParen p.0.1 q.0 q.1 ∙ ap (λ z. t.Symbol s.OpenParen ∷ z) (operands-spelled q.0.1 r.0 r.1))) r.2
+    (name-spelled ts p.0 p.1 ∙ ap (λ z. t.Name p.0.0 ∷ z) (behind-spelled s.OpenParen p.0.1 q.0 q.1 ∙ ap (λ z. t.Symbol s.OpenParen ∷ z) (operands-spelled q.0.1 r.0 r.1))) r.2
 
 call-spelled : (ts : Tokens) (y : SmallStatement × Tokens) → call_at ts ≡ Some y → t.Word w.Let ∷ ts ≡ statement y.0 y.1
 unfolding call_at statement
@@ -313,7 +323,7 @@ call-spelled ts y e =
     let called : r.0.1 ≡ t.Name u.0.0.0 ∷ t.Symbol s.OpenParen ∷ closed (map operand_token u.0.0.1) (t.Symbol s.Semicolon ∷ v.0.1) = called-spelled r.0.1 u.0 u.1 ∙ ap (λ z. t.Name u.0.0.0 ∷ t.Symbol s.OpenParen ∷ closed (map operand_token u.0.0.1) z) (behind-spelled s.Semicolon u.0.1 v.0 v.1) in
     let equals : p.0.1 ≡ t.Symbol s.Assign ∷ t.Word w.Call ∷ t.Name u.0.0.0 ∷ t.Symbol s.OpenParen ∷ closed (map operand_token u.0.0.1) (t.Symbol s.Semicolon ∷ v.0.1) = behind-spelled s.Assign p.0.1 q.0 q.1 ∙ ap (λ z. t.Symbol s.Assign ∷ z) (behind_word-spelled w.Call q.0.1 r.0 r.1 ∙ ap (λ z. t.Word w.Call ∷ z) called) in
     same_spelling (λ z. statement z.0 z.1) _ (small.Call p.0.0 u.0.0.0 u.0.0.1, v.0.1) y
-        (ap (λ z. t.Word w.Let ∷ z) (name-spelled ts p.0 p.1 ∙ ap (λ z. t.Name p.0.0 ∷ z) equals)) v.2
+    (ap (λ z. t.Word w.Let ∷ z) (name-spelled ts p.0 p.1 ∙ ap (λ z. t.Name p.0.0 ∷ z) equals)) v.2
 
 print-spelled : (ts : Tokens) (y : SmallStatement × Tokens) → print_at ts ≡ Some y → t.Word w.Print ∷ ts ≡ statement y.0 y.1
 unfolding print_at statement
@@ -326,10 +336,11 @@ print-spelled ts y e =
     let end : r.0.1 ≡ t.Symbol s.CloseParen ∷ t.Symbol s.Semicolon ∷ v.0.1 = behind-spelled s.CloseParen r.0.1 u.0 u.1 ∙ ap (λ z. t.Symbol s.CloseParen ∷ z) (behind-spelled s.Semicolon u.0.1 v.0 v.1) in
     let argument : p.0.1 ≡ t.Symbol s.OpenParen ∷ t.Name r.0.0 ∷ t.Symbol s.CloseParen ∷ t.Symbol s.Semicolon ∷ v.0.1 = behind-spelled s.OpenParen p.0.1 q.0 q.1 ∙ ap (λ z. t.Symbol s.OpenParen ∷ z) (name-spelled q.0.1 r.0 r.1 ∙ ap (λ z. t.Name r.0.0 ∷ z) end) in
     same_spelling (λ z. statement z.0 z.1) _ (small.Print r.0.0, v.0.1) y
-        (ap (λ z. t.Word w.Print ∷ z) (behind_name-spelled (codes "result") ts p.0 p.1 ∙ ap (λ z. t.Name (codes "result") ∷ z) argument)) v.2
+    (ap (λ z. t.Word w.Print ∷ z) (behind_name-spelled (codes "result") ts p.0 p.1 ∙ ap (λ z. t.Name (codes "result") ∷ z) argument)) v.2
 
 pub statement-spelled : (ts : Tokens) (y : SmallStatement × Tokens) → statement_at ts ≡ Some y → ts ≡ statement y.0 y.1
 unfolding statement_at
 statement-spelled ts y e = elim (chosen (begins_word w.Let ts) _ _ _ e) [
-    inl h ↦ let p = bound _ (behind_word w.Let ts) y h.1 in behind_word-spelled w.Let ts p.0 p.1 ∙ call-spelled p.0.1 y p.2
-  | inr h ↦ let p = bound _ (behind_word w.Print ts) y h.1 in behind_word-spelled w.Print ts p.0 p.1 ∙ print-spelled p.0.1 y p.2 ]
+  | inl h ↦ let p = bound _ (behind_word w.Let ts) y h.1 in behind_word-spelled w.Let ts p.0 p.1 ∙ call-spelled p.0.1 y p.2
+  | inr h ↦ let p = bound _ (behind_word w.Print ts) y h.1 in behind_word-spelled w.Print ts p.0 p.1 ∙ print-spelled p.0.1 y p.2
+]

@@ -1,5 +1,5 @@
 -- What a text is parsed as.
-use Rattle.std.specs.Prelude.{◌≡◌, ◌≤◌, ℕ, List, length, map, Option, None, Result, Ok, Err}
+use Rattle.std.specs.Prelude.{◌≡◌, ◌≤◌, true, length, map, None, Result, Ok, Err}
 use Rattle.script_tree.specs.declared.script.Script.{Script}
 use Rattle.script_tree.specs.declared.small.SmallScript.{SmallScript}
 use Rattle.script_tree.specs.Grammar.{PlacedTree, max_text}
@@ -8,13 +8,22 @@ use Rattle.script_tree.specs.Rules.{IsWellFormed}
 use Rattle.script_tree.specs.Small.{tree_of, IsSmallText}
 use Rattle.script_tree.specs.Spelling.{script}
 use Rattle.script_tree.specs.Spelling as spelling
+use Rattle.app_script.specs.SmallRules.{script_is_right}
 use Rattle.app_script.specs.declared.lexer.Tokens.{Tokens}
 use Rattle.app_script.specs.declared.parse.ParseFault.{ParseFault}
 use Rattle.app_script.specs.declared.parse.ParseFault.TheVariants.{NotYet, NoMemory}
 
+-- the one small script that has this text
+pub record IsTheScript (bytes : Text) (script : PlacedTree) : Type 0 where
+  pub text : IsSmallText bytes script
+  pub only : (other : PlacedTree) → IsSmallText bytes other → other ≡ script
+  -- read as a small script it keeps the static rules, and it has no more statements than its text has bytes
+  pub rules : (small : SmallScript) → tree_of small ≡ script.tree → script_is_right small ≡ true
+  pub short : (small : SmallScript) → tree_of small ≡ script.tree → length small.main ≤ max_text
+
 -- the text has this script, or it is that of no small script that breaks no static rule
 abbrev pub Parsed : Text → Result Script ParseFault → Type 0
-Parsed bytes (Ok script) = IsSmallText bytes script
+Parsed bytes (Ok script) = IsTheScript bytes script
 Parsed bytes (Err NotYet) = (script : PlacedTree) → IsSmallText bytes script → ⊥
 Parsed bytes (Err NoMemory) = Unit {0}
 

@@ -1,5 +1,5 @@
 -- Reads the tokens of a small script from the left.
-use Rattle.std.specs.Prelude.{◌≡◌, ℕ, Bool, true, false, ◌&&◌, if◌then◌else◌, List, [], ◌∷◌, ◌++◌, drop, length, ◌<◌, Option, Some, None, option_and_then, Result, Ok, Err, bytes_eq, codes}
+use Rattle.std.specs.Prelude.{◌≡◌, ℕ, Bool, true, false, if◌then◌else◌, List, [], ◌∷◌, ◌++◌, drop, Option, Some, None, option_and_then, Result, Ok, Err, bytes_eq, codes}
 use denote.Enum.Bare.{sameb}
 use Rattle.script_tree.specs.contracts.token.Symbol as symbol
 use Rattle.script_tree.specs.contracts.token.Word as word

@@ -1,5 +1,5 @@
 -- The static rules of a small script, as tests on its parts.
-use Rattle.std.specs.Prelude.{◌≡◌, ℕ, Bool, true, false, not, ◌&&◌, ◌||◌, if◌then◌else◌, List, [], ◌∷◌, ◌++◌, length, nat_eq, nat_le, bytes_eq}
+use Rattle.std.specs.Prelude.{ℕ, Bool, true, false, not, ◌&&◌, if◌then◌else◌, List, [], ◌∷◌, ◌++◌, length, nat_eq, nat_le, bytes_eq}
 use Rattle.std.specs.List.{list_any, list_all}
 use Rattle.script_tree.specs.declared.small.Operand.{Operand}
 use Rattle.script_tree.specs.declared.small.Operand.TheVariants as operand

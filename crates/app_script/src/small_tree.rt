@@ -6,8 +6,8 @@ ghost use Rattle.script_tree.specs.Small as spec;
 use flow_base::Text;
 use script_tree::small::{Operand, SmallApp, SmallScript, SmallStatement};
 use script_tree::tree::{
-    Added, AppDef, Atom, Block, CallExpr, Comp, Conj, Expr, Name, Post, Statement, Sum, SumOp, Term,
-    Unary,
+    Added, AppDef, Atom, Block, CallExpr, Comp, Conj, Expr, Name, Post, Statement, Sum, SumOp,
+    Term, Unary,
 };
 use sqlite_items::{Boxed, Items};
 use std::alloc::{AllocError, Global};

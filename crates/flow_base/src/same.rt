@@ -21,11 +21,17 @@ impl Value {
                 _ => false,
             },
             Value::File { name, content } => match other {
-                Value::File { name: n, content: c } => name.same(n) && content.same(c),
+                Value::File {
+                    name: n,
+                    content: c,
+                } => name.same(n) && content.same(c),
                 _ => false,
             },
             Value::Future { path, outputs } => match other {
-                Value::Future { path: p, outputs: n } => same_path(path, p) && outputs == n,
+                Value::Future {
+                    path: p,
+                    outputs: n,
+                } => same_path(path, p) && outputs == n,
                 _ => false,
             },
             Value::Output { path, index } => match other {

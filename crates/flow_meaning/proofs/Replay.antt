@@ -1,6 +1,6 @@
 -- One meaning for three users: an act after the answers so far is what a walk has left, and performing an act
 -- is walking it with each request answered in turn.
-use Rattle.std.proofs.Common.{◌≡◌, List, [], ◌∷◌, ◌++◌, refl, sym, ap, ◌∙◌, Result}
+use Rattle.std.proofs.Common.{◌≡◌, List, [], ◌∷◌, ◌++◌, refl, sym, ap, ◌∙◌}
 use Rattle.flow_base.specs.declared.outcome.Exception.{Exception}
 use Rattle.flow_meaning.specs.declared.walk.Request.{Request}
 use Rattle.flow_meaning.specs.declared.walk.Answer.{Answer}

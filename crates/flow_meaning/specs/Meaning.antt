@@ -1,10 +1,9 @@
 -- The meaning of expressions, statements and bodies.
-use Rattle.std.specs.Prelude.{ℕ, zero, suc, ◌+◌, Bool, true, false, not, ◌&&◌, if◌then◌else◌, List, [], ◌∷◌, ◌++◌, length, map, Option, Some, None, nat_lt, nat_le, bytes_eq, slice_get, slice_set, zip, ℤ, pos, codes}
+use Rattle.std.specs.Prelude.{ℕ, zero, suc, ◌+◌, Bool, true, false, not, if◌then◌else◌, List, [], ◌∷◌, ◌++◌, length, map, Option, Some, None, nat_lt, nat_le, bytes_eq, slice_set, zip, ℤ, pos}
 use Rattle.std.specs.List.{position_or_len}
 use Rattle.flow_base.specs.declared.value.Value.{Value, out-Value}
 use Rattle.flow_base.specs.declared.value.Value.TheVariants as v
 use Rattle.flow_base.specs.declared.outcome.FileOut.{FileOut}
-use Rattle.flow_base.specs.declared.outcome.Exception.{Exception}
 use Rattle.flow_base.specs.declared.outcome.Exception.TheVariants as x
 use Rattle.flow_base.specs.Values.{max_units}
 use Rattle.script_tree.specs.declared.tree.CompareOp.{CompareOp}
@@ -18,12 +17,10 @@ use Rattle.script_tree.specs.declared.tree.Atom.TheOpen.{Atom-F}
 use Rattle.script_tree.specs.declared.tree.Expr.{Expr}
 use Rattle.script_tree.specs.declared.tree.CallExpr.{CallExpr}
 use Rattle.script_tree.specs.Folds.{Steps, AtomOf, BlockSteps, fold_expr, fold_call, fold_block}
-use Rattle.script_tree.specs.declared.tree.Statement.TheOpen.{Block-F, Statement-F}
+use Rattle.script_tree.specs.declared.tree.Statement.TheOpen.{Statement-F}
 use Rattle.script_tree.specs.declared.tree.Block.{Block}
-use Rattle.script_tree.specs.declared.tree.Statement.{Statement}
 use Rattle.script_tree.specs.BuiltIns.{built_in_named}
 use Rattle.flow_meaning.specs.declared.walk.Request.TheVariants as request
-use Rattle.flow_meaning.specs.declared.walk.Answer.{Answer}
 use Rattle.flow_meaning.specs.Act.{Act, Give, Throw, Ask, ◌>>=◌, all_of}
 use Rattle.flow_meaning.specs.Operators.{Text, limited, int_of, text_of, list_of, truth_of, truth, added, multiplied, negated, compared, indexed, len, sliced, int_text, number_in, the_number, ints_from, count_between, split_at, joined, texts_of, file_name, file_content, output_of}
 use Rattle.flow_meaning.specs.Told.{result_of, exception_of, called_value}
@@ -157,7 +154,8 @@ module _ (apps : List Text) where
     post = λ e vars. e.atom vars >>= λ from. items_at vars from e.indices;
     sum = λ e vars. e.first vars >>= λ left. sums vars left e.others;
     term = λ e vars. e.first vars >>= λ left. products vars left e.others;
-    unary = λ e vars. e.post vars >>= signed e.op }
+    unary = λ e vars. e.post vars >>= signed e.op;
+  }
 
   -- what an expression gives
   abbrev pub value_of : Expr → Calc

@@ -1,11 +1,10 @@
 -- The operators and the built-ins, on values.
-use Rattle.std.specs.Prelude.{ℕ, zero, suc, ◌+◌, ◌-◌, ◌*◌, ◌^◌, Bool, true, false, not, ◌&&◌, ◌||◌, if◌then◌else◌, List, [], ◌∷◌, ◌++◌, length, take, drop, map, fold, Option, Some, None, nat_eq, nat_lt, nat_le, bytes_eq, slice_get, ℤ, pos, negsuc, ◌+ℤ◌, ◌-ℤ◌, ◌*ℤ◌, neg_ℤ, int_lt, int_le, int_div, int_rem, decimal, codes}
-use Rattle.std.specs.List.{slice_split, join_with_byte, range_with_len, list_all}
+use Rattle.std.specs.Prelude.{ℕ, zero, suc, ◌+◌, ◌-◌, ◌*◌, ◌^◌, Bool, true, false, not, ◌&&◌, ◌||◌, if◌then◌else◌, List, [], ◌∷◌, ◌++◌, length, take, drop, map, fold, Option, Some, None, nat_eq, nat_lt, nat_le, slice_get, ℤ, pos, negsuc, ◌+ℤ◌, ◌-ℤ◌, ◌*ℤ◌, neg_ℤ, int_lt, int_le, int_div, int_rem, decimal}
+use Rattle.std.specs.List.{slice_split, list_all}
 use Rattle.std.specs.Char.{is_ascii_digit}
 use Rattle.flow_base.specs.declared.value.Value.{Value, out-Value}
 use Rattle.flow_base.specs.declared.value.Value.TheOpen.{Value-F}
 use Rattle.flow_base.specs.declared.value.Value.TheVariants as v
-use Rattle.flow_base.specs.declared.outcome.Exception.{Exception}
 use Rattle.flow_base.specs.declared.outcome.Exception.TheVariants as x
 use Rattle.flow_base.specs.Values.{fits, same}
 use Rattle.script_tree.specs.declared.tree.CompareOp.{CompareOp}
@@ -14,7 +13,7 @@ use Rattle.script_tree.specs.declared.tree.SumOp.{SumOp}
 use Rattle.script_tree.specs.declared.tree.SumOp.TheVariants.{Plus, Minus}
 use Rattle.script_tree.specs.declared.tree.TermOp.{TermOp}
 use Rattle.script_tree.specs.declared.tree.TermOp.TheVariants.{Times, Over, Rest}
-use Rattle.flow_meaning.specs.Act.{Act, Give, Throw, Ask, ◌>>=◌}
+use Rattle.flow_meaning.specs.Act.{Act, Give, Throw, ◌>>=◌}
 
 -- One level of a value, as `out-Value` opens it.
 abbrev pub Layer : Type 0

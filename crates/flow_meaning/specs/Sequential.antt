@@ -1,5 +1,5 @@
 -- The rule of a call, and the sequential evaluation.
-use Rattle.std.specs.Prelude.{ℕ, zero, suc, ◌+◌, Bool, true, false, not, ◌&&◌, if◌then◌else◌, List, [], ◌∷◌, ◌++◌, length, map, Option, Some, None, Result, Ok, Err, bytes_eq, slice_get, filter, flat_map}
+use Rattle.std.specs.Prelude.{ℕ, zero, suc, Bool, true, false, if◌then◌else◌, List, [], ◌∷◌, ◌++◌, length, map, Option, Some, None, Result, Ok, Err, bytes_eq, slice_get, filter}
 use Rattle.std.specs.List.{list_all}
 use Rattle.flow_base.specs.declared.value.Value.{Value, out-Value}
 use Rattle.flow_base.specs.declared.value.Value.TheOpen.{Value-F}
@@ -20,7 +20,7 @@ use Rattle.flow_meaning.specs.declared.walk.Request.{Request}
 use Rattle.flow_meaning.specs.declared.walk.Request.TheVariants as request
 use Rattle.flow_meaning.specs.declared.walk.Answer.{Answer}
 use Rattle.flow_meaning.specs.declared.walk.Answer.TheVariants as answer
-use Rattle.flow_meaning.specs.Act.{Act, Give, Throw, Ask, ◌>>=◌}
+use Rattle.flow_meaning.specs.Act.{Act, Give, Throw, Ask}
 use Rattle.flow_meaning.specs.Operators.{Layer, Text}
 use Rattle.flow_meaning.specs.Meaning.{Done, body}
 use Rattle.flow_meaning.specs.Inputs.{Path, path_in, inputs, are_deep, distinct}
@@ -205,8 +205,8 @@ module _ (apps : List AppDef) (losses : Path → Option ℕ) where
   by_rules room below path app arguments names ts =
       if are_deep arguments then settles (o.Failed x.TypeError)
       else unless_dependency (failed_among ts (inputs arguments))
-        (let values = resolved ts arguments in
-         if list_all fits values then runs room below path (slice_get apps app) values names else settles (o.Failed x.SizeError))
+      (let values = resolved ts arguments in
+      if list_all fits values then runs room below path (slice_get apps app) values names else settles (o.Failed x.SizeError))
 
   abbrev pub rule : ℕ → Rule
   rule zero = by_rules zero (λ path app arguments names ts. settles (o.Failed x.DepthError))

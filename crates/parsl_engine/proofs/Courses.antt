@@ -4,14 +4,14 @@ use Rattle.std.specs.declared.result.Result.{Result}
 use Rattle.std.proofs.lemmas.List.{take_all}
 use Rattle.flow_base.specs.Causes.{Rose}
 use Rattle.flow_base.specs.Shelf.{ShelfState, Stand, Reads}
-use Rattle.flow_base.specs.Sink.{SinkState, TookPart, Adds, AddsPart}
+use Rattle.flow_base.specs.Sink.{SinkState, TookPart, Adds, AddsPart, AddsUnlessFailed}
 use Rattle.flow_base.specs.declared.shelf.CallKind.TheVariants.{Read}
 use Rattle.flow_base.specs.declared.shelf.ShelfFault.{ShelfFault}
 use Rattle.flow_base.specs.declared.shelf.ShelfFault.TheVariants as fault
 use Rattle.parsl_engine.specs.declared.ending.Ending.{Ending}
 use Rattle.parsl_engine.specs.declared.ending.Ending.TheVariants.{Done, Words, NotYet, Unread, Unwritten, NoMemory}
 use Rattle.parsl_engine.specs.Output.{Prints, IsNotYet}
-use Rattle.parsl_engine.specs.Course.{status_of, read_limit, WritesPart, WritesWhole, Printed, Answers, Course}
+use Rattle.parsl_engine.specs.Course.{status_of, line_of, read_line, read_limit, WritesPart, WritesWhole, Printed, Answers, Course, Tells, NamesAlone}
 
 all_is_part : (bytes : List ℕ) (tells : Bool) (out out' : SinkState) → WritesWhole bytes tells out out' → WritesPart bytes tells out out'
 all_is_part bytes tells out out' w = record {
@@ -107,3 +107,31 @@ module _ (name : List ℕ) (shelf_tells out_tells : Bool) (shelf shelf' : ShelfS
     kept = λ z. r.count;
     calls = λ t. record { made = []; added = r.calls t; follows = tt };
   }
+
+pub print-names : (name bytes : List ℕ) (tells : Bool) (out out' : SinkState) (e : Ending) → Printed bytes e tells out out' → NamesAlone name e
+print-names name bytes tells out out' Done p = tt
+print-names name bytes tells out out' NotYet p = tt
+print-names name bytes tells out out' Unwritten p = tt
+print-names name bytes tells out out' NoMemory p = tt
+print-names name bytes tells out out' Words p = tt
+print-names name bytes tells out out' (Unread other) p = absurd p
+
+-- a run's status is never that of words
+pub never-words : (name : List ℕ) (status : ℕ) (shelf_tells out_tells : Bool) (shelf shelf' : ShelfState) (out out' : SinkState) → Course name status shelf_tells out_tells shelf shelf' out out' → status ≢ 2
+never-words name status shelf_tells out_tells shelf shelf' out out' c two = by_status c.one_of
+  where
+    by_status : (status ≡ 0) ⊎ (status ≡ 3) ⊎ (status ≡ 6) ⊎ (status ≡ 7) ⊎ (status ≡ 12) → ⊥
+    by_status (inl s) = omega arith
+    by_status (inr (inl s)) = omega arith
+    by_status (inr (inr (inl s))) = omega arith
+    by_status (inr (inr (inr (inl s)))) = omega arith
+    by_status (inr (inr (inr (inr s)))) = omega arith
+
+-- the line of each status
+pub tells-line : (name : List ℕ) (tells : Bool) (err err' : SinkState) (e : Ending) → NamesAlone name e → AddsUnlessFailed tells err err' (line_of e) → Tells name (status_of e) tells err err'
+tells-line name tells err err' Done alone line = record { done = λ z. line; not_yet = λ z. absurd (omega arith); unread = λ z. absurd (omega arith); unwritten = λ z. absurd (omega arith); memory = λ z. absurd (omega arith) }
+tells-line name tells err err' Words alone line = record { done = λ z. absurd (omega arith); not_yet = λ z. absurd (omega arith); unread = λ z. absurd (omega arith); unwritten = λ z. absurd (omega arith); memory = λ z. absurd (omega arith) }
+tells-line name tells err err' NotYet alone line = record { done = λ z. absurd (omega arith); not_yet = λ z. line; unread = λ z. absurd (omega arith); unwritten = λ z. absurd (omega arith); memory = λ z. absurd (omega arith) }
+tells-line name tells err err' (Unread other) alone line = record { done = λ z. absurd (omega arith); not_yet = λ z. absurd (omega arith); unread = λ z. subst (λ (n : List ℕ). AddsUnlessFailed tells err err' (read_line n)) alone line; unwritten = λ z. absurd (omega arith); memory = λ z. absurd (omega arith) }
+tells-line name tells err err' Unwritten alone line = record { done = λ z. absurd (omega arith); not_yet = λ z. absurd (omega arith); unread = λ z. absurd (omega arith); unwritten = λ z. line; memory = λ z. absurd (omega arith) }
+tells-line name tells err err' NoMemory alone line = record { done = λ z. absurd (omega arith); not_yet = λ z. absurd (omega arith); unread = λ z. absurd (omega arith); unwritten = λ z. absurd (omega arith); memory = λ z. line }

@@ -1,11 +1,10 @@
 -- The empty text has fault 4 at 0, and no other.
-use Rattle.std.proofs.Common.{◌≡◌, ℕ, ◌+◌, ◌<◌, ◌≤◌, ◌⊎◌, List, [], ◌∷◌, ◌++◌, length, refl, sym, ap, ◌∙◌, inl, inr, arith, lit≤, None, Some}
+use Rattle.std.proofs.Common.{◌≡◌, ℕ, List, [], ◌∷◌, ◌++◌, refl, sym, inl, inr, arith, lit≤}
 use Rattle.script_tree.specs.declared.token.Token.{Token}
-use Rattle.script_tree.specs.declared.tree.Block.{Block, roll-Block}
-use Rattle.script_tree.specs.declared.tree.AppDef.{AppDef}
+use Rattle.script_tree.specs.declared.tree.Block.{roll-Block}
 use Rattle.script_tree.specs.Spelling.{Tokens, script}
-use Rattle.script_tree.specs.Lexing.{Lexed, lex}
-use Rattle.script_tree.specs.Grammar.{Tree, Placed, GoesOn, IsScript, At, IsFault, Faulty, IsSyntaxFault, max_text}
+use Rattle.script_tree.specs.Lexing.{lex}
+use Rattle.script_tree.specs.Grammar.{Tree, GoesOn, IsScript, At, IsFault, Faulty}
 
 not_empty : {A : Type 0} (xs : List A) (y : A) (ys : List A) → [] ≡ xs ++ (y ∷ ys) → ⊥
 not_empty [] y ys e = cc

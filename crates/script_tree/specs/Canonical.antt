@@ -1,5 +1,5 @@
 -- The canonical text of a tree.
-use Rattle.std.specs.Prelude.{ℕ, zero, suc, ◌+◌, ◌*◌, Bool, true, false, if◌then◌else◌, List, [], ◌∷◌, ◌++◌, flat_map, replicate, map, Option, Some, None, ℤ, pos, negsuc, decimal, codes, nat_eq}
+use Rattle.std.specs.Prelude.{ℕ, ◌+◌, ◌*◌, Bool, true, false, if◌then◌else◌, List, [], ◌∷◌, ◌++◌, flat_map, replicate, Option, Some, None, ℤ, pos, negsuc, decimal, codes, nat_eq}
 use Rattle.std.specs.List.{join_by}
 use Rattle.script_tree.specs.declared.tree.SumOp.{SumOp}
 use Rattle.script_tree.specs.declared.tree.SumOp.TheVariants as plus

@@ -1,6 +1,5 @@
 -- Meanings of the tree: a function of a whole expression or block is given by one step for each class, which
 -- has the results of its parts in their places. An operator stands beside the result of its operand.
-use Rattle.std.specs.Prelude.{ℕ, List, Option}
 use Rattle.script_tree.specs.declared.tree.SumOp.{SumOp}
 use Rattle.script_tree.specs.declared.tree.TermOp.{TermOp}
 use Rattle.script_tree.specs.declared.tree.CompareOp.{CompareOp}

@@ -1,8 +1,7 @@
 -- Which texts are scripts, and which fault a text has.
-use Rattle.std.specs.Prelude.{◌≡◌, ℕ, ◌+◌, ◌-◌, ◌<◌, ◌≤◌, ◌⊎◌, Bool, true, false, List, [], ◌∷◌, ◌++◌, length, map, fold, Option, Some, None}
+use Rattle.std.specs.Prelude.{◌≡◌, ℕ, ◌+◌, ◌-◌, ◌<◌, ◌≤◌, ◌⊎◌, List, [], ◌∷◌, ◌++◌, length, map, fold, Some, None}
 use Rattle.script_tree.specs.declared.token.Token.{Token}
 use Rattle.script_tree.specs.declared.token.Token.TheVariants as t
-use Rattle.script_tree.specs.declared.token.Symbol.{Symbol}
 use Rattle.script_tree.specs.declared.token.Symbol.TheVariants as s
 use Rattle.script_tree.specs.declared.tree.Block.{Block}
 use Rattle.script_tree.specs.declared.tree.AppDef.{AppDef}

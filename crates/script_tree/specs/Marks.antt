@@ -1,7 +1,5 @@
 -- What the static rules see of a tree: one mark for each token, in the order of the text.
-use Rattle.std.specs.Prelude.{ℕ, suc, ◌+◌, Bool, true, false, List, [], ◌∷◌, ◌++◌, length, flat_map, replicate, Option, Some, None, ℤ}
-use Rattle.script_tree.specs.declared.tree.SumOp.{SumOp}
-use Rattle.script_tree.specs.declared.tree.TermOp.{TermOp}
+use Rattle.std.specs.Prelude.{ℕ, suc, Bool, true, false, List, [], ◌∷◌, ◌++◌, length, flat_map, replicate, Option, Some, None, ℤ}
 use Rattle.script_tree.specs.declared.tree.CompareOp.{CompareOp}
 use Rattle.script_tree.specs.declared.tree.UnaryOp.{UnaryOp}
 use Rattle.script_tree.specs.declared.tree.Atom.TheOpen.{Atom-F}

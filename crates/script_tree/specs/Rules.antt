@@ -1,13 +1,13 @@
 -- The static rules, each on one mark. A fault is a place and a kind.
-use Rattle.std.specs.Prelude.{◌≡◌, ℕ, zero, suc, ◌+◌, ◌<◌, ◌≤◌, ◌⊎◌, Bool, true, false, not, ◌&&◌, ◌||◌, if◌then◌else◌, List, [], ◌∷◌, ◌++◌, length, map, take, drop, find, flat_map, Contains, Option, Some, None, nat_eq, nat_lt, nat_le, bytes_eq, get_or, ℤ, pos, negsuc, is_some}
-use Rattle.std.specs.List.{list_any, concat}
+use Rattle.std.specs.Prelude.{◌≡◌, ℕ, suc, ◌<◌, ◌≤◌, ◌⊎◌, Bool, true, false, not, ◌&&◌, if◌then◌else◌, List, [], ◌∷◌, ◌++◌, length, map, take, find, Contains, Option, Some, None, nat_eq, nat_lt, nat_le, bytes_eq, get_or, ℤ, pos, negsuc}
+use Rattle.std.specs.List.{list_any}
 use Rattle.script_tree.specs.declared.tree.BuiltIn.{BuiltIn}
 use Rattle.script_tree.specs.declared.tree.BuiltIn.TheVariants.{Result, Exception}
 use Rattle.script_tree.specs.declared.tree.AppDef.{AppDef}
 use Rattle.script_tree.specs.BuiltIns.{built_in_named, arity}
 use Rattle.script_tree.specs.Canonical as canonical
 use Rattle.script_tree.specs.Grammar.{Tree}
-use Rattle.script_tree.specs.Marks.{Name, Mark, Other, Opens, Closes, News, Shows, Uses, Applies, Calls, Names, Acts, Writes, Joins, Defines, Takes, HasOutputs, Outputs, Main, Marks, script}
+use Rattle.script_tree.specs.Marks.{Name, Mark, Opens, Closes, News, Shows, Uses, Applies, Calls, Names, Acts, Writes, Joins, Defines, Takes, HasOutputs, Outputs, Main, Marks, script}
 
 -- where a token stands
 pub data Body : Type 0 where

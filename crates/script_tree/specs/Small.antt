@@ -1,17 +1,17 @@
 -- The tree of a small script.
-use Rattle.std.specs.Prelude.{◌≡◌, ℕ, ℤ, List, [], ◌∷◌, map, Option, Some, None, false, codes}
+use Rattle.std.specs.Prelude.{◌≡◌, ℕ, List, [], ◌∷◌, map, None, false, codes}
 use Rattle.script_tree.specs.declared.tree.SumOp.TheVariants.{Plus}
 use Rattle.script_tree.specs.declared.tree.Atom.{Atom}
 use Rattle.script_tree.specs.declared.tree.Atom.TheVariants as atom
-use Rattle.script_tree.specs.declared.tree.Post.{Post, roll-Post}
-use Rattle.script_tree.specs.declared.tree.Unary.{Unary, roll-Unary}
+use Rattle.script_tree.specs.declared.tree.Post.{roll-Post}
+use Rattle.script_tree.specs.declared.tree.Unary.{roll-Unary}
 use Rattle.script_tree.specs.declared.tree.Term.{Term, roll-Term}
 use Rattle.script_tree.specs.declared.tree.Added.{Added, roll-Added}
 use Rattle.script_tree.specs.declared.tree.Sum.{Sum, roll-Sum}
-use Rattle.script_tree.specs.declared.tree.Comp.{Comp, roll-Comp}
-use Rattle.script_tree.specs.declared.tree.Conj.{Conj, roll-Conj}
+use Rattle.script_tree.specs.declared.tree.Comp.{roll-Comp}
+use Rattle.script_tree.specs.declared.tree.Conj.{roll-Conj}
 use Rattle.script_tree.specs.declared.tree.Expr.{Expr, roll-Expr}
-use Rattle.script_tree.specs.declared.tree.CallExpr.{CallExpr, roll-CallExpr}
+use Rattle.script_tree.specs.declared.tree.CallExpr.{roll-CallExpr}
 use Rattle.script_tree.specs.declared.tree.Statement.{Statement}
 use Rattle.script_tree.specs.declared.tree.Statement.TheVariants as statement
 use Rattle.script_tree.specs.declared.tree.Block.{Block, roll-Block}

@@ -6,8 +6,7 @@ use std::alloc::{AllocError, Global};
 /// The atom of a term that has nothing else.
 fn atom_alone(term: &Term) -> Option<&Atom> {
     let unary = &term.first;
-    let is_alone =
-        term.others.is_empty() && unary.op.is_none() && unary.post.indices.is_empty();
+    let is_alone = term.others.is_empty() && unary.op.is_none() && unary.post.indices.is_empty();
     is_alone.then_some(&unary.post.atom)
 }
 
@@ -143,7 +142,8 @@ fn answer(alloc: Global, text: &[u8]) -> Result<String, AllocError> {
     }
 }
 
-const SUMS: &[u8] = b"app add(a, b) {\n  return a + b;\n}\n\nmain {\n  let x = call add(1, 2);\n  let y = call add(x, 10);\n  print result(y);\n}\n";
+const SUMS: &[u8] =
+    b"app add(a, b) {\n  return a + b;\n}\n\nmain {\n  let x = call add(1, 2);\n  let y = call add(x, 10);\n  print result(y);\n}\n";
 
 const SIXTEEN: &[u8] = b"app f(a,b,c,d,e,g,h,i,j,k,l,m,n,o,p,q) { return a; } main { }";
 

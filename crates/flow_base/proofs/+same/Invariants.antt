@@ -1,4 +1,4 @@
-use Rattle.std.proofs.Common.{◌≡◌, length, drop, map}
+use Rattle.std.proofs.Common.{◌≡◌, drop, map}
 use Rattle.flow_base.specs.Values.{all_match, same}
 use Rattle.flow_base.proofs.+same.Given as goal
 

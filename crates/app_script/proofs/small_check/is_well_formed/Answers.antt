@@ -1,4 +1,4 @@
-use Rattle.std.proofs.Common.{◌≡◌, sym, subst, Bool}
+use Rattle.std.proofs.Common.{sym, subst, Bool}
 use Rattle.std.specs.Prelude.{◌↔◌, IsTrue}
 use Rattle.script_tree.specs.Rules.{IsWellFormed}
 use Rattle.script_tree.specs.Small.{tree_of}

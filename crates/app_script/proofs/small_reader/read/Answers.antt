@@ -1,4 +1,4 @@
-use Rattle.std.proofs.Common.{◌≡◌, ◌∙◌, sym, ap}
+use Rattle.std.proofs.Common.{◌∙◌, sym}
 use Rattle.app_script.proofs.SmallSpelling.{script-spelled}
 use Rattle.app_script.proofs.small_reader.read.Goals as goal
 

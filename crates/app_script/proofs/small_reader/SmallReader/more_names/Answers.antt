@@ -1,7 +1,7 @@
-use Rattle.std.proofs.Common.{◌≡◌, ◌∙◌, sym, ap, List, []}
+use Rattle.std.proofs.Common.{◌≡◌, ◌∙◌, sym, ap, []}
 use Rattle.std.proofs.lemmas.Result.{err_from_is_err_and}
-use Rattle.app_script.specs.Reading.{names_from, name_turn}
-use Rattle.app_script.proofs.Readers.{names-turn, name_turn-shorter, went_on, ended, passed_on, turn-goes_on}
+use Rattle.app_script.specs.Reading.{names_from}
+use Rattle.app_script.proofs.Readers.{names-turn, name_turn-shorter, went_on, ended, passed_on}
 use Rattle.app_script.proofs.small_reader.SmallReader.more_names.Goals as goal
 
 pub returns-in_err-name_and_comma : goal.returns-in_err-name_and_comma

@@ -1,7 +1,7 @@
-use Rattle.std.proofs.Common.{◌≡◌, ◌∙◌, sym, ap, List, []}
+use Rattle.std.proofs.Common.{◌≡◌, ◌∙◌, sym, ap, []}
 use Rattle.std.proofs.lemmas.Result.{err_from_is_err_and}
-use Rattle.app_script.specs.Reading.{operands_from, operand_turn}
-use Rattle.app_script.proofs.Readers.{operands-turn, operand_turn-shorter, went_on, ended, passed_on, turn-goes_on}
+use Rattle.app_script.specs.Reading.{operands_from}
+use Rattle.app_script.proofs.Readers.{operands-turn, operand_turn-shorter, went_on, ended, passed_on}
 use Rattle.app_script.proofs.small_reader.SmallReader.more_operands.Goals as goal
 
 pub returns-in_err-operand_and_comma : goal.returns-in_err-operand_and_comma

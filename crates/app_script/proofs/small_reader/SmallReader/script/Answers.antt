@@ -1,4 +1,3 @@
-use Rattle.std.proofs.Common.{◌≡◌, ◌∙◌, sym, ap, List, [], length, ◌==◌}
 use Rattle.std.proofs.lemmas.Result.{err_from_is_err_and}
 use Rattle.app_script.proofs.Scripts.{apps_error, open_error, main_error, end_error, script_spelled, rest_is_empty, rest_is_more}
 use Rattle.app_script.proofs.small_reader.SmallReader.script.Goals as goal

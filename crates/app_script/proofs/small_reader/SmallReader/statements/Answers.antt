@@ -1,7 +1,6 @@
-use Rattle.std.proofs.Common.{◌≡◌, ◌∙◌, sym, ap, List, []}
+use Rattle.std.proofs.Common.{◌∙◌, sym, ap}
 use Rattle.std.proofs.lemmas.Result.{err_from_is_err_and}
 use Rattle.app_script.specs.SmallTokens.{statement, statements, each}
-use Rattle.app_script.specs.Reading.{statement_turn}
 use Rattle.app_script.proofs.Readers.{turn-goes_on, turn-stops}
 use Rattle.app_script.proofs.Scripts.{statement_turn-goes, statement_turn-ends, statement_turn-stuck, turn_error}
 use Rattle.app_script.proofs.small_reader.SmallReader.statements.Goals as goal

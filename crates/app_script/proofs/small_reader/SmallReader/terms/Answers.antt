@@ -1,6 +1,6 @@
-use Rattle.std.proofs.Common.{◌≡◌, ◌∙◌, sym, ap, List, []}
+use Rattle.std.proofs.Common.{◌≡◌, ◌∙◌, sym, ap, []}
 use Rattle.std.proofs.lemmas.Result.{err_from_is_err_and}
-use Rattle.app_script.specs.Reading.{terms_from, term_turn}
+use Rattle.app_script.specs.Reading.{terms_from}
 use Rattle.app_script.proofs.Readers.{terms-turn, term_turn-shorter, went_on, ended, passed_on, turn-goes_on}
 use Rattle.app_script.proofs.small_reader.SmallReader.terms.Goals as goal
 
