@@ -8,5 +8,6 @@ mod Whole
 mod Settling
 mod Evaluating
 mod Sound
+mod Outputs
 mod Lines
 mod Courses

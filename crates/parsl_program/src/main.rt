@@ -1,0 +1,35 @@
+//! The program: `parsl_program run SCRIPT`.
+#![tactic(auto)]
+
+use flow_base::{HostShelf, HostSink, Word, Words};
+use parsl_engine::ending::Ending;
+use parsl_engine::parsl_top;
+use std::env;
+use std::io::{self, ErrorKind};
+use std::process::ExitCode;
+
+/// The words of the command line, without the program's name.
+fn command_words(rt: &HostRuntime) -> io::Result<Words> {
+    let alloc = rt.alloc();
+    let mut words = Words::new(alloc);
+    for word in env::args(rt)?.skip(1) {
+        words.push(Word::of(alloc, word.as_str())?)?;
+    }
+    Ok(words)
+}
+
+fn main(rt: HostRuntime) -> ExitCode {
+    let alloc = rt.alloc();
+    let mut out = HostSink::new(rt.stdout());
+    let mut err = HostSink::new(rt.stderr());
+    let status = match command_words(&rt) {
+        Ok(words) => {
+            let mut shelf = HostShelf::new(alloc, rt);
+            parsl_top(alloc, &words, &mut shelf, &mut out, &mut err)
+        }
+        Err(error) if error.kind() == ErrorKind::OutOfMemory => Ending::NoMemory.finish(&mut err),
+        // A word that isn't UTF-8.
+        Err(_) => Ending::Words.finish(&mut err),
+    };
+    ExitCode::from(status)
+}
