@@ -1,6 +1,6 @@
 -- What a small app gives for Ints.
-use Rattle.std.proofs.Common.{◌≡◌, ℕ, Bool, true, false, List, [], ◌∷◌, length, map, refl, ap, ◌∙◌, sym, Option, Some, None}
-use Rattle.std.specs.Prelude.{ℤ, zip, ◌&&◌}
+use Rattle.std.proofs.Common.{◌≡◌, true, List, [], length, map, refl, ap, ◌∙◌, sym, Option, Some, None}
+use Rattle.std.specs.Prelude.{ℤ, zip}
 use Rattle.flow_base.specs.declared.value.Value.{Value}
 use Rattle.flow_base.specs.declared.value.Value.TheVariants as v
 use Rattle.flow_base.specs.declared.outcome.Exception.TheVariants as x
@@ -10,10 +10,10 @@ use Rattle.script_tree.specs.declared.tree.Statement.TheVariants as statement
 use Rattle.script_tree.specs.declared.tree.Expr.{Expr}
 use Rattle.script_tree.specs.declared.small.SmallApp.{SmallApp}
 use Rattle.script_tree.specs.Folds.{fold_block, fold_statement}
-use Rattle.script_tree.specs.Small.{app_of, app_body, sum_expr}
-use Rattle.flow_meaning.specs.Act.{Act, Give, Throw, Ask, ◌>>=◌}
+use Rattle.script_tree.specs.Small.{app_of}
+use Rattle.flow_meaning.specs.Act.{Act, Give, Throw, ◌>>=◌}
 use Rattle.flow_meaning.specs.Operators.{Text}
-use Rattle.flow_meaning.specs.Meaning.{State, Flow, Goes, Returns, Does, Done, doing, does, value_of, sequence, and_then, done, body, unwritten, max_turns}
+use Rattle.flow_meaning.specs.Meaning.{State, Flow, Returns, Done, doing, does, value_of, sequence, and_then, done, body, max_turns}
 use Rattle.flow_meaning.specs.Sequential.{apply, end_of}
 use Rattle.parsl_engine.specs.Ints.{sum_of, ended_with, knows_parameters}
 use Rattle.parsl_engine.proofs.Sums.{and-true, int_or_overflow, sum-is}
@@ -48,5 +48,5 @@ app-adds a zs same knows =
     let known = and-true _ _ knows in
     let s : State = record { vars = zip a.parameters (map v.Int zs); written = []; left = max_turns } in
     ap (λ (act : Act Flow). end_of (act >>= done []))
-      (block-is [] [] _ s ∙ ap (λ (act : Act Flow). act >>= (λ f. and_then f (sequence []))) (return-is [] [] _ s ∙ ap (λ (act : Act Value). act >>= (λ value. Give (Returns value s))) (sum-is [] a.parameters zs same a.first a.others known.0 known.1)))
+    (block-is [] [] _ s ∙ ap (λ (act : Act Flow). act >>= (λ f. and_then f (sequence []))) (return-is [] [] _ s ∙ ap (λ (act : Act Value). act >>= (λ value. Give (Returns value s))) (sum-is [] a.parameters zs same a.first a.others known.0 known.1)))
     ∙ ap end_of (behind_sum (sum_of a zs) s) ∙ ends-returned (sum_of a zs)

@@ -1,10 +1,9 @@
 -- How the run of a script goes, by how its read went and how the printing ended.
-use Rattle.std.proofs.Common.{◌≡◌, ◌≢◌, ◌⊎◌, inl, inr, ℕ, ◌≤◌, Bool, true, false, IsTrue, List, [], ◌∷◌, ◌++◌, length, take, refl, sym, ◌∙◌, ap, subst, arith, option_map, Option, Some, None, Vec, Global, Ok, Err, append-nil}
+use Rattle.std.proofs.Common.{◌≡◌, ◌≢◌, ◌⊎◌, inl, inr, ℕ, Bool, true, false, List, [], ◌∷◌, ◌++◌, length, refl, sym, ◌∙◌, ap, subst, arith, Some, None, Vec, Global, Ok, Err}
 use Rattle.std.specs.declared.result.Result.{Result}
 use Rattle.std.proofs.lemmas.List.{take_all}
-use Rattle.flow_base.specs.Causes.{Rose}
-use Rattle.flow_base.specs.Shelf.{ShelfState, Stand, Reads}
-use Rattle.flow_base.specs.Sink.{SinkState, TookPart, Adds, AddsPart, AddsUnlessFailed}
+use Rattle.flow_base.specs.Shelf.{ShelfState, Reads}
+use Rattle.flow_base.specs.Sink.{SinkState, AddsUnlessFailed}
 use Rattle.flow_base.specs.declared.shelf.CallKind.TheVariants.{Read}
 use Rattle.flow_base.specs.declared.shelf.ShelfFault.{ShelfFault}
 use Rattle.flow_base.specs.declared.shelf.ShelfFault.TheVariants as fault
@@ -67,8 +66,14 @@ one-of bytes tells out out' NoMemory p = inr (inr (inr (inr refl)))
 one-of bytes tells out out' Words p = absurd p
 one-of bytes tells out out' (Unread name) p = absurd p
 
+abbrev was_read : Vec ℕ Global → Result (Vec ℕ Global) ShelfFault
+was_read bytes = Ok bytes
+
+abbrev not_read : ShelfFault → Result (Vec ℕ Global) ShelfFault
+not_read fault = Err fault
+
 module _ (name : List ℕ) (shelf_tells out_tells : Bool) (shelf shelf' : ShelfState) (out out' : SinkState) where
-  pub course-read : (bytes : Vec ℕ Global) (e : Ending) → Reads shelf_tells name read_limit shelf (Ok {T = Vec ℕ Global} {E = ShelfFault} bytes) shelf' → Printed bytes.items e out_tells out out'
+  pub course-read : (bytes : Vec ℕ Global) (e : Ending) → Reads shelf_tells name read_limit shelf (was_read bytes) shelf' → Printed bytes.items e out_tells out out'
       → Course name (status_of e) shelf_tells out_tells shelf shelf' out out'
   course-read bytes e r printed = let answers = answered bytes.items out_tells out out' e printed in record {
     one_of = one-of bytes.items out_tells out out' e printed;
@@ -82,7 +87,7 @@ module _ (name : List ℕ) (shelf_tells out_tells : Bool) (shelf shelf' : ShelfS
     calls = λ t. record { made = record { kind = Read; name = name; failed = false } ∷ []; added = r.calls t; follows = (refl, refl, (λ f. absurd (cc)), tt) };
   }
 
-  pub course-failed : Reads shelf_tells name read_limit shelf (Err {T = Vec ℕ Global} {E = ShelfFault} fault.Failed) shelf' → out' ≡ out → Course name 6 shelf_tells out_tells shelf shelf' out out'
+  pub course-failed : Reads shelf_tells name read_limit shelf (not_read fault.Failed) shelf' → out' ≡ out → Course name 6 shelf_tells out_tells shelf shelf' out out'
   course-failed r same = record {
     one_of = inr (inr (inl refl));
     given = None;
@@ -95,7 +100,7 @@ module _ (name : List ℕ) (shelf_tells out_tells : Bool) (shelf shelf' : ShelfS
     calls = λ t. record { made = record { kind = Read; name = name; failed = true } ∷ []; added = r.calls t; follows = (refl, refl, (λ f. refl), tt) };
   }
 
-  pub course-memory : Reads shelf_tells name read_limit shelf (Err {T = Vec ℕ Global} {E = ShelfFault} fault.NoMemory) shelf' → out' ≡ out → Course name 12 shelf_tells out_tells shelf shelf' out out'
+  pub course-memory : Reads shelf_tells name read_limit shelf (not_read fault.NoMemory) shelf' → out' ≡ out → Course name 12 shelf_tells out_tells shelf shelf' out out'
   course-memory r same = record {
     one_of = inr (inr (inr (inr refl)));
     given = None;

@@ -1,12 +1,10 @@
 -- What the expressions of small scripts mean, by their parts.
-use Rattle.std.proofs.Common.{◌≡◌, ℕ, ℤ, List, [], ◌∷◌, ◌++◌, map, refl, ap, ◌∙◌, sym, Option, Some, None}
-use Rattle.flow_base.specs.declared.value.Value.{Value}
+use Rattle.std.proofs.Common.{◌≡◌, ℤ, List, [], map, refl, ap, ◌∙◌, sym}
 use Rattle.flow_base.specs.declared.value.Value.TheVariants as v
-use Rattle.script_tree.specs.declared.tree.SumOp.{SumOp}
 use Rattle.script_tree.specs.declared.tree.SumOp.TheVariants.{Plus}
 use Rattle.script_tree.specs.declared.tree.Atom.{Atom, fold-roll-Atom}
 use Rattle.script_tree.specs.declared.tree.Atom.TheVariants as atom
-use Rattle.script_tree.specs.declared.tree.Added.{Added, roll-Added, fold-roll-Added}
+use Rattle.script_tree.specs.declared.tree.Added.{Added, fold-roll-Added}
 use Rattle.script_tree.specs.declared.tree.Comp.{fold-roll-Comp}
 use Rattle.script_tree.specs.declared.tree.Conj.{fold-roll-Conj}
 use Rattle.script_tree.specs.declared.tree.Expr.{fold-roll-Expr}
@@ -15,12 +13,11 @@ use Rattle.script_tree.specs.declared.tree.Sum.{Sum, roll-Sum, fold-roll-Sum}
 use Rattle.script_tree.specs.declared.tree.Term.{Term, fold-roll-Term}
 use Rattle.script_tree.specs.declared.tree.Unary.{fold-roll-Unary}
 use Rattle.script_tree.specs.declared.small.Operand.{Operand}
-use Rattle.script_tree.specs.declared.small.Operand.TheVariants as operand
 use Rattle.script_tree.specs.Folds.{fold_atom, fold_added, fold_call, fold_compared, fold_comp, fold_conj, fold_expr, fold_factor, fold_post, fold_sum, fold_term, fold_unary}
-use Rattle.script_tree.specs.Small.{term_of, expr_of, operand_atom, plus_operand, sum_expr, alone}
+use Rattle.script_tree.specs.Small.{term_of, expr_of, operand_atom, plus_operand, alone}
 use Rattle.flow_meaning.specs.Act.{Act, Give, Throw, Ask, ◌>>=◌}
 use Rattle.flow_meaning.specs.Operators.{Text}
-use Rattle.flow_meaning.specs.Meaning.{Calc, Vars, meaning, value_of, sums, got}
+use Rattle.flow_meaning.specs.Meaning.{Vars, meaning, value_of, sums, got}
 
 pub bind-Give : {A : Type 0} (a : Act A) → (a >>= (λ x. Give x)) ≡ a
 bind-Give (Give x) = refl

@@ -1,16 +1,14 @@
 -- The run of a small script's tasks gives its sequential evaluation.
-use Rattle.std.proofs.Common.{◌≡◌, ℕ, zero, suc, ◌+◌, ◌-◌, ◌<◌, ◌≤◌, Bool, true, false, cond, List, [], ◌∷◌, ◌++◌, length, map, fold, position, refl, ap, ◌∙◌, sym, subst, Option, Some, None, option_map, arith, append_assoc, add-zero, add-one, zero-add, append-nil, length-append}
-use Rattle.std.specs.Prelude.{ℤ, pos, ◌&&◌, is_none, unwrap_or, slice_get, slice_set, count_by}
+use Rattle.std.proofs.Common.{◌≡◌, ℕ, zero, suc, ◌+◌, ◌<◌, ◌≤◌, Bool, true, false, List, [], ◌∷◌, ◌++◌, length, map, position, refl, ap, ◌∙◌, sym, subst, Option, Some, None, option_map, arith, length-append}
+use Rattle.std.specs.Prelude.{ℤ, is_none, slice_get, count_by}
 use Rattle.std.specs.List.{list_all}
 use Rattle.std.proofs.lemmas.Option.{slice_get-map, slice_get_within}
 use Rattle.std.proofs.lemmas.Grind.{common_steps}
 use Rattle.flow_base.specs.declared.value.Value.TheVariants as v
 use Rattle.flow_base.specs.declared.outcome.Exception.TheVariants as x
-use Rattle.flow_base.specs.declared.outcome.Outcome.{Outcome}
 use Rattle.flow_base.specs.declared.outcome.Outcome.TheVariants as o
 use Rattle.flow_base.specs.declared.outcome.Ending.TheVariants as ending
 use Rattle.flow_base.specs.declared.outcome.TaskEnd.{TaskEnd}
-use Rattle.flow_base.specs.declared.outcome.Evaluation.{Evaluation}
 use Rattle.script_tree.specs.declared.tree.AppDef.{AppDef}
 use Rattle.script_tree.specs.declared.small.SmallApp.{SmallApp}
 use Rattle.script_tree.specs.declared.small.SmallStatement.{SmallStatement}
@@ -23,7 +21,7 @@ use Rattle.flow_meaning.specs.Evaluations.{no_losses, evaluation, Overflows, IsI
 use Rattle.parsl_engine.specs.declared.plan.Call.{Call}
 use Rattle.parsl_engine.specs.declared.plan.Task.{Task}
 use Rattle.parsl_engine.specs.Ints.{ended_with, knows_parameters}
-use Rattle.parsl_engine.specs.Plan.{sum_at, names_of, unstarted, calls_of, plan_of, nothing_planned, int_at, int_of_argument, value_of_call, values_from, takes, is_sound, is_sound_main, end_of_call, ends_from, shown, evaluation_with}
+use Rattle.parsl_engine.specs.Plan.{sum_at, names_of, unstarted, calls_of, plan_of, nothing_planned, int_at, int_of_argument, value_of_call, is_sound, is_sound_main, end_of_call, ends_from, shown}
 use Rattle.parsl_engine.specs.Tasks.{is_ready, int_in, int_of_task, ends_of, Settles}
 use Rattle.parsl_engine.proofs.Sums.{and-true}
 use Rattle.parsl_engine.proofs.Apps.{app-adds}

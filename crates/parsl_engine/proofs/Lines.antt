@@ -1,5 +1,5 @@
 -- A line that is written in pieces.
-use Rattle.std.proofs.Common.{◌≡◌, ℕ, ◌+◌, ◌-◌, ◌^◌, ◌≤◌, min, Bool, List, ◌++◌, refl, ap, ◌∙◌, sym, arith, append_assoc}
+use Rattle.std.proofs.Common.{ℕ, ◌≤◌, Bool, List, ◌++◌, ap, ◌∙◌, arith, append_assoc}
 use Rattle.flow_base.specs.Causes.{Rose}
 use Rattle.flow_base.specs.Sink.{SinkState, AddsUnlessFailed}
 

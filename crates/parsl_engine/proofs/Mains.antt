@@ -1,31 +1,31 @@
 -- What the statements of a small main ask for.
-use Rattle.std.proofs.Common.{◌≡◌, ℕ, zero, suc, ◌+◌, ◌<◌, Bool, true, false, List, [], ◌∷◌, ◌++◌, length, map, refl, ap, ◌∙◌, sym, Option, Some, None, bytes_eq, arith, append_assoc, add-zero, add-one, zero-add, append-nil}
-use Rattle.std.specs.Prelude.{ℤ, zip, ◌&&◌, ◌||◌, not, codes}
+use Rattle.std.proofs.Common.{◌≡◌, ℕ, suc, ◌+◌, Bool, true, false, List, [], ◌∷◌, ◌++◌, length, map, refl, ap, ◌∙◌, sym, bytes_eq, arith, append_assoc, add-zero, zero-add, append-nil}
+use Rattle.std.specs.Prelude.{◌||◌}
 use Rattle.std.specs.List.{list_all}
 use Rattle.flow_base.specs.declared.value.Value.{Value, out-Value, out-roll-Value}
 use Rattle.flow_base.specs.declared.value.Value.TheOpen.{Value-F}
 use Rattle.flow_base.specs.declared.value.Value.TheVariants as v
-use Rattle.script_tree.specs.declared.tree.Atom.{Atom, fold-roll-Atom}
+use Rattle.script_tree.specs.declared.tree.Atom.{fold-roll-Atom}
 use Rattle.script_tree.specs.declared.tree.Atom.TheVariants as atom
 use Rattle.script_tree.specs.declared.tree.CallExpr.{CallExpr, roll-CallExpr, fold-roll-CallExpr}
 use Rattle.script_tree.specs.declared.tree.Expr.{Expr}
-use Rattle.script_tree.specs.declared.tree.Statement.{Statement, fold-roll-Statement}
+use Rattle.script_tree.specs.declared.tree.Statement.{fold-roll-Statement}
 use Rattle.script_tree.specs.declared.tree.Statement.TheVariants as statement
 use Rattle.script_tree.specs.declared.small.Operand.{Operand}
 use Rattle.script_tree.specs.declared.small.Operand.TheVariants as operand
 use Rattle.script_tree.specs.BuiltIns.{built_in_named}
 use Rattle.script_tree.specs.Folds.{fold_atom, fold_added, fold_call, fold_compared, fold_comp, fold_conj, fold_expr, fold_factor, fold_post, fold_sum, fold_term, fold_unary, fold_block, fold_statement}
-use Rattle.script_tree.specs.Small.{alone, operand_atom, operand_expr, call_expr, result_expr}
+use Rattle.script_tree.specs.Small.{operand_expr, call_expr, result_expr}
 use Rattle.flow_meaning.specs.declared.walk.Request.TheVariants as request
-use Rattle.flow_meaning.specs.Act.{Act, Give, Throw, Ask, ◌>>=◌, all_from, all_of}
+use Rattle.flow_meaning.specs.Act.{Give, Ask, ◌>>=◌, all_from, all_of}
 use Rattle.flow_meaning.specs.Operators.{Text}
 use Rattle.flow_meaning.specs.Told.{called_value, awaited_value, result_of}
-use Rattle.flow_meaning.specs.Meaning.{Vars, Calc, State, Flow, Goes, doing, meaning, values, value_of, got, put, sets, number_of, applied}
+use Rattle.flow_meaning.specs.Meaning.{Vars, Calc, State, Goes, doing, meaning, values, value_of, got, put, sets, number_of, applied}
 use Rattle.parsl_engine.specs.declared.plan.Argument.{Argument}
 use Rattle.parsl_engine.specs.declared.plan.Argument.TheVariants as argument
 use Rattle.parsl_engine.specs.Ints.{is_among, is_known}
 use Rattle.parsl_engine.specs.Plan.{place_of, argument_in}
-use Rattle.parsl_engine.proofs.Equations.{at, bind-Give, alone-is, atom-variable, atom-number}
+use Rattle.parsl_engine.proofs.Equations.{at, alone-is, atom-variable, atom-number}
 use Rattle.parsl_engine.proofs.Sums.{and-true}
 use Rattle.parsl_engine.proofs.Apps.{in_state}
 

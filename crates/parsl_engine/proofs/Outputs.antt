@@ -1,10 +1,10 @@
 -- What is produced for the text of a script.
-use Rattle.std.proofs.Common.{◌≡◌, ℕ, true, List, map, refl, sym, ap, ◌∙◌, subst}
+use Rattle.std.proofs.Common.{◌≡◌, ℕ, true, List, map, sym, ap, ◌∙◌, subst}
 use Rattle.script_tree.specs.declared.tree.AppDef.{AppDef}
 use Rattle.script_tree.specs.declared.tree.Block.{Block}
 use Rattle.script_tree.specs.declared.small.SmallScript.{SmallScript}
 use Rattle.script_tree.specs.Grammar.{Tree, PlacedTree}
-use Rattle.script_tree.specs.Small.{app_of, tree_of, IsSmall, IsSmallText}
+use Rattle.script_tree.specs.Small.{app_of, tree_of, IsSmall}
 use Rattle.flow_base.specs.declared.outcome.Evaluation.{Evaluation}
 use Rattle.flow_meaning.specs.Sequential.{seq}
 use Rattle.flow_meaning.specs.Evaluations.{no_losses, evaluation, Overflows, IsInRange}
@@ -38,4 +38,5 @@ prints bytes output script small e the is given in_range head = record {
   script = script;
   text = the.text;
   in_range = subst IsInRange is in_range;
-  head = head ∙ ap head_text (given ∙ ap evaluation is) }
+  head = head ∙ ap head_text (given ∙ ap evaluation is);
+}

@@ -1,15 +1,13 @@
 -- A small main, its calls settled at once by the rule.
-use Rattle.std.proofs.Common.{◌≡◌, ℕ, zero, suc, ◌+◌, ◌<◌, ◌≤◌, Bool, true, false, List, [], ◌∷◌, ◌++◌, length, map, fold, refl, ap, ◌∙◌, sym, subst, Option, Some, None, Result, Ok, Err, bytes_eq, arith, append_assoc, add-zero, add-one, zero-add, append-nil, length-append}
-use Rattle.std.specs.Prelude.{ℤ, pos, ◌&&◌, not, nat_lt, slice_get}
+use Rattle.std.proofs.Common.{◌≡◌, ℕ, suc, ◌<◌, Bool, true, false, List, [], ◌∷◌, ◌++◌, length, map, refl, ap, ◌∙◌, sym, Some, Result, bytes_eq, arith, zero-add}
+use Rattle.std.specs.Prelude.{ℤ, nat_lt, slice_get}
 use Rattle.std.specs.List.{list_all}
-use Rattle.std.specs.Option.{option_and_then}
 use Rattle.std.proofs.lemmas.Bool.Decides.{nat_tests}
 use Rattle.flow_base.specs.declared.value.Value.{Value, out-Value, out-roll-Value}
 use Rattle.flow_base.specs.declared.value.Value.TheOpen.{Value-F}
 use Rattle.flow_base.specs.declared.value.Value.TheVariants as v
 use Rattle.flow_base.specs.declared.outcome.Exception.{Exception}
 use Rattle.flow_base.specs.declared.outcome.Outcome.{Outcome}
-use Rattle.flow_base.specs.declared.outcome.Outcome.TheVariants as o
 use Rattle.script_tree.specs.declared.small.Operand.{Operand}
 use Rattle.script_tree.specs.declared.small.Operand.TheVariants as operand
 use Rattle.script_tree.specs.declared.small.SmallApp.{SmallApp}
@@ -19,22 +17,20 @@ use Rattle.script_tree.specs.Folds.{fold_statement}
 use Rattle.script_tree.specs.Small.{app_of, statement_of, call_expr, result_expr}
 use Rattle.flow_meaning.specs.declared.walk.Request.{Request}
 use Rattle.flow_meaning.specs.declared.walk.Answer.{Answer}
-use Rattle.flow_meaning.specs.Act.{Act, Give, Throw, Ask, ◌>>=◌}
+use Rattle.flow_meaning.specs.Act.{Act, Give, Ask, ◌>>=◌}
 use Rattle.flow_meaning.specs.Inputs.{path_in}
 use Rattle.flow_meaning.specs.Operators.{Text}
 use Rattle.flow_meaning.specs.declared.walk.Request.TheVariants as request
 use Rattle.flow_meaning.specs.Told.{called_value, awaited_value}
-use Rattle.flow_meaning.specs.Meaning.{Vars, State, Flow, Goes, Done, doing, sequence, done, put, sets, and_then}
-use Rattle.flow_meaning.specs.Sequential.{Task, Tasks, Ran, MainAct, Calls, Waits, Prints, Main, perform, main_answer, rule, outcome_at, waits, acted, outcome_answer}
-use Rattle.parsl_engine.specs.declared.plan.Argument.{Argument}
-use Rattle.parsl_engine.specs.declared.plan.Argument.TheVariants as argument
+use Rattle.flow_meaning.specs.Meaning.{Vars, State, Goes, Done, doing, sequence, done, put, sets, and_then}
+use Rattle.flow_meaning.specs.Sequential.{Ran, MainAct, Calls, Waits, Prints, Main, perform, main_answer, rule, outcome_at, waits, acted, outcome_answer}
 use Rattle.parsl_engine.specs.declared.plan.Call.{Call}
 use Rattle.parsl_engine.specs.Ints.{is_among, is_known, knows_parameters}
-use Rattle.parsl_engine.specs.Plan.{place_of, names_of, argument_in, call_in, planned, int_at, value_of_call, values_from, takes, is_sound_main}
+use Rattle.parsl_engine.specs.Plan.{place_of, names_of, argument_in, call_in, int_at, value_of_call, takes}
 use Rattle.parsl_engine.proofs.Sums.{and-true}
 use Rattle.parsl_engine.proofs.Mains.{future_at, futures_from, put-future, value_of_argument, call-is, result-is, let-is, print-is}
-use Rattle.parsl_engine.proofs.Tasks.{has_int, task_at, tasks_from, tasks-push, outcome-is, is_within, outcome_with, rule-is}
-use Rattle.flow_meaning.specs.Evaluations.{no_losses, Overflows}
+use Rattle.parsl_engine.proofs.Tasks.{has_int, task_at, tasks_from, outcome-is, is_within, outcome_with, rule-is}
+use Rattle.flow_meaning.specs.Evaluations.{no_losses}
 
 -- ---- names that are there
 
@@ -90,24 +86,24 @@ module _ (apps : List SmallApp) (known : list_all knows_parameters apps ≡ true
     pub step-call : (variable app : Text) (os : List Operand)
         → is_among names variable ≡ false → list_all (is_known names) os ≡ true → takes (slice_get apps (place_of app_names app)) (length os) ≡ true
         → ran (rest_of_main app_names (small.Call variable app os ∷ ss) (state_at names left)) (main_with cs zs acts printed)
-          ≡ ran (rest_of_main app_names ss (state_at (names ++ variable ∷ []) left)) (main_called cs zs (call_in app_names names app os) (outcome_with (value_of_call apps zs (call_in app_names names app os))) (acts ++ Calls (suc (length cs) ∷ []) ∷ []) printed)
+        ≡ ran (rest_of_main app_names ss (state_at (names ++ variable ∷ []) left)) (main_called cs zs (call_in app_names names app os) (outcome_with (value_of_call apps zs (call_in app_names names app os))) (acts ++ Calls (suc (length cs) ∷ []) ∷ []) printed)
     step-call variable app os fresh given enough =
         let c : Call = call_in app_names names app os in
         let rule_is = rule-is apps known cs zs same c (suc (length cs) ∷ []) (arguments-within names (length zs) (named ∙ same) os given) (rw (length-operands names os) enough) in
         let m : Main = main_with cs zs acts printed in
         let put_vars : Vars = put (futures_from 0 names) variable (future_at (length cs)) in
         let behind : Ran → Result Done Exception × Main = λ r. ran (rest_of_main app_names ss (record { vars = put_vars; written = []; left = left }))
-              (record { made = record { calls = suc (length cs); tasks = tasks_from 0 cs zs ++ (record (task_at (length cs) c r.outcome) { outcome = r.outcome } ∷ r.below) }; acts = acts ++ Calls (suc (length cs) ∷ []) ∷ []; printed = printed }) in
+        (record { made = record { calls = suc (length cs); tasks = tasks_from 0 cs zs ++ (record (task_at (length cs) c r.outcome) { outcome = r.outcome } ∷ r.below) }; acts = acts ++ Calls (suc (length cs) ∷ []) ∷ []; printed = printed }) in
         let behind_value : Act Value → Act Done = λ act. (act >>= (λ value. sets variable value (state_at names left))) >>= (λ f. and_then f (sequence (map (fold_statement (doing app_names [])) (map statement_of ss)))) >>= done [] in
         let asks : rest_of_main app_names (small.Call variable app os ∷ ss) (state_at names left) ≡ behind_value (Ask (request.Call c.app (map value_of_argument c.arguments) []) called_value)
-              = rw (let-is app_names [] variable (call_expr app os) (state_at names left), call-is app_names names app os given) refl in
+        = rw (let-is app_names [] variable (call_expr app os) (state_at names left), call-is app_names names app os given) refl in
         ap (λ act. ran act m) asks ∙ ap behind rule_is
         ∙ ap (λ vars. ran (rest_of_main app_names ss (record { vars = vars; written = []; left = left })) (main_called cs zs c (outcome_with (value_of_call apps zs c)) (acts ++ Calls (suc (length cs) ∷ []) ∷ []) printed))
-            (ap (λ k. put (futures_from 0 names) variable (future_at k)) (sym named ∙ sym (zero-add (length names))) ∙ put-future 0 names variable fresh)
+        (ap (λ k. put (futures_from 0 names) variable (future_at k)) (sym named ∙ sym (zero-add (length names))) ∙ put-future 0 names variable fresh)
 
     pub step-print : (variable : Text) → is_among names variable ≡ true
         → ran (rest_of_main app_names (small.Print variable ∷ ss) (state_at names left)) (main_with cs zs acts printed)
-          ≡ ran (rest_of_main app_names ss (state_at names left)) (main_with cs zs ((acts ++ Waits (suc (place_of names variable) ∷ []) ∷ []) ++ Prints (v.Int (int_at zs (place_of names variable))) ∷ []) (printed ++ v.Int (int_at zs (place_of names variable)) ∷ []))
+        ≡ ran (rest_of_main app_names ss (state_at names left)) (main_with cs zs ((acts ++ Waits (suc (place_of names variable) ∷ []) ∷ []) ++ Prints (v.Int (int_at zs (place_of names variable))) ∷ []) (printed ++ v.Int (int_at zs (place_of names variable)) ∷ []))
     step-print variable there =
         let k : ℕ = place_of names variable in
         let below = place-below names variable there in
@@ -116,7 +112,7 @@ module _ (apps : List SmallApp) (known : list_all knows_parameters apps ≡ true
         let m : Main = main_with cs zs acts printed in
         let behind_value : Act Value → Act Done = λ act. (act >>= (λ value. Ask (request.Print value) (λ _. Give (Goes (state_at names left))))) >>= (λ f. and_then f (sequence (map (fold_statement (doing app_names [])) (map statement_of ss)))) >>= done [] in
         let asks : rest_of_main app_names (small.Print variable ∷ ss) (state_at names left) ≡ behind_value (Ask (request.WaitValue (future_at k)) (awaited_value (Value-F.Future (suc k ∷ []) 0)))
-              = rw (print-is app_names [] (result_expr variable) (state_at names left), result-is app_names names variable there) refl in
+        = rw (print-is app_names [] (result_expr variable) (state_at names left), result-is app_names names variable there) refl in
         let told : Answer × Main → Result Done Exception × Main = λ r. ran (behind_value (awaited_value (Value-F.Future (suc k ∷ []) 0) r.0)) r.1 in
         ap (λ act. ran act m) asks
         ∙ ap (λ (layer : Value-F Value). told (waits m (path_in layer))) out_is

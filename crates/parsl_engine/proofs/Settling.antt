@@ -1,12 +1,10 @@
 -- Tasks that get their values one after another.
-use Rattle.std.proofs.Common.{◌≡◌, ℕ, zero, suc, ◌+◌, ◌-◌, ◌<◌, ◌≤◌, ◌⊎◌, inl, inr, Bool, true, false, cond, List, [], ◌∷◌, ◌++◌, length, map, take, drop, position, refl, ap, ◌∙◌, sym, subst, Option, Some, None, option_map, arith, append_assoc, add-zero, add-one, zero-add, append-nil, length-append, get_or}
-use Rattle.std.specs.Prelude.{ℤ, pos, ◌&&◌, not, nat_lt, nat_eq, is_none, is_some, unwrap_or, slice_get, slice_set, count_by}
+use Rattle.std.proofs.Common.{◌≡◌, ℕ, zero, suc, ◌+◌, ◌<◌, ◌≤◌, ◌⊎◌, inl, inr, Bool, true, false, cond, List, [], ◌∷◌, ◌++◌, length, map, drop, position, refl, ap, ◌∙◌, sym, subst, Option, Some, None, arith, add-zero, zero-add, length-append, get_or}
+use Rattle.std.specs.Prelude.{ℤ, ◌&&◌, nat_lt, slice_get, slice_set}
 use Rattle.std.specs.List.{list_all, position_or_len}
 use Rattle.std.specs.Option.{option_and_then}
 use Rattle.std.proofs.lemmas.Bool.Decides.{nat_tests}
-use Rattle.std.proofs.lemmas.Grind.{common_steps}
 use Rattle.std.proofs.lemmas.Option.{slice_get_within, get_or_from_slice_get}
-use Rattle.script_tree.specs.declared.small.Operand.{Operand}
 use Rattle.script_tree.specs.declared.small.SmallApp.{SmallApp}
 use Rattle.script_tree.specs.declared.small.SmallStatement.{SmallStatement}
 use Rattle.script_tree.specs.declared.small.SmallStatement.TheVariants as small
@@ -15,7 +13,7 @@ use Rattle.parsl_engine.specs.declared.plan.Argument.{Argument}
 use Rattle.parsl_engine.specs.declared.plan.Argument.TheVariants as argument
 use Rattle.parsl_engine.specs.declared.plan.Call.{Call}
 use Rattle.parsl_engine.specs.declared.plan.Task.{Task}
-use Rattle.parsl_engine.specs.Plan.{names_of, place_of, call_in, unstarted, calls_of, int_at, int_of_argument, value_of_call, values_from, takes, is_sound_main}
+use Rattle.parsl_engine.specs.Plan.{names_of, place_of, unstarted, int_at, int_of_argument, value_of_call, values_from, takes, is_sound_main}
 use Rattle.parsl_engine.specs.Tasks.{has_value, is_valued, is_ready, int_in, int_of_task, Settles}
 use Rattle.parsl_engine.proofs.Sums.{and-true}
 use Rattle.parsl_engine.proofs.Tasks.{is_within}

@@ -1,7 +1,7 @@
 -- What a sum of parameters and numbers gives.
-use Rattle.std.proofs.Common.{◌≡◌, ℕ, Bool, true, false, IsTrue, cond, List, [], ◌∷◌, ◌++◌, length, map, refl, ap, ◌∙◌, sym, Option, Some, None, bytes_eq, arith}
-use Rattle.std.specs.Prelude.{ℤ, ◌+ℤ◌, zip, ◌&&◌, ◌||◌}
-use Rattle.std.specs.List.{list_any, list_all}
+use Rattle.std.proofs.Common.{◌≡◌, Bool, true, false, List, [], ◌∷◌, length, map, refl, ap, ◌∙◌, sym, Option, Some, None, bytes_eq, arith}
+use Rattle.std.specs.Prelude.{ℤ, ◌+ℤ◌, zip, ◌&&◌}
+use Rattle.std.specs.List.{list_all}
 use Rattle.flow_base.specs.declared.value.Value.{Value, out-Value, out-roll-Value}
 use Rattle.flow_base.specs.declared.value.Value.TheOpen.{Value-F}
 use Rattle.flow_base.specs.declared.value.Value.TheVariants as v
@@ -9,13 +9,13 @@ use Rattle.flow_base.specs.declared.outcome.Exception.TheVariants as x
 use Rattle.script_tree.specs.declared.tree.SumOp.TheVariants.{Plus}
 use Rattle.script_tree.specs.declared.small.Operand.{Operand}
 use Rattle.script_tree.specs.declared.small.Operand.TheVariants as operand
-use Rattle.script_tree.specs.Folds.{fold_atom, fold_added, fold_term}
-use Rattle.script_tree.specs.Small.{term_of, operand_atom, plus_operand, sum_expr}
-use Rattle.flow_meaning.specs.Act.{Act, Give, Throw, Ask, ◌>>=◌}
-use Rattle.flow_meaning.specs.Operators.{Text, added, plus, int, fits_int}
+use Rattle.script_tree.specs.Folds.{fold_atom, fold_added}
+use Rattle.script_tree.specs.Small.{operand_atom, plus_operand, sum_expr}
+use Rattle.flow_meaning.specs.Act.{Act, Give, Throw, ◌>>=◌}
+use Rattle.flow_meaning.specs.Operators.{Text, added, int, fits_int}
 use Rattle.flow_meaning.specs.Meaning.{Vars, meaning, value_of, sums, got}
 use Rattle.parsl_engine.specs.Ints.{is_among, int_of_name, is_known, int_of_operand, added_up}
-use Rattle.parsl_engine.proofs.Equations.{bind-Give, term-alone, expr-of, sum-rolled, atom-variable, atom-number, added-rolled}
+use Rattle.parsl_engine.proofs.Equations.{term-alone, expr-of, sum-rolled, atom-variable, atom-number, added-rolled}
 
 pub out-Int : (z : ℤ) → out-Value (v.Int z) ≡ Value-F.Int z
 out-Int z = ap out-Value (sym (v.rolls-Int z)) ∙ out-roll-Value _
@@ -60,12 +60,12 @@ module _ (apps names : List Text) (zs : List ℤ) (same : length names ≡ lengt
   sums-are left (o ∷ os) known =
       let both : (is_known names o ≡ true) × (list_all (is_known names) os ≡ true) = and-true _ _ known in
       rw (added-rolled apps o, term-alone apps (operand_atom o) vars, operand-is apps names zs o same both.0, plus-Ints left (int_of_operand names zs o))
-        (by_test (fits_int (left +ℤ int_of_operand names zs o)) refl (sums-are (left +ℤ int_of_operand names zs o) os both.1))
+      (by_test (fits_int (left +ℤ int_of_operand names zs o)) refl (sums-are (left +ℤ int_of_operand names zs o) os both.1))
     where
       by_test : (t : Bool) → fits_int (left +ℤ int_of_operand names zs o) ≡ t
           → sums vars (v.Int (left +ℤ int_of_operand names zs o)) (map (fold_added (meaning apps)) (map plus_operand os)) ≡ int_or_overflow (added_up (left +ℤ int_of_operand names zs o) (map (int_of_operand names zs) os))
           → (int (left +ℤ int_of_operand names zs o) >>= (λ sum. sums vars sum (map (fold_added (meaning apps)) (map plus_operand os))))
-            ≡ int_or_overflow (added_up left (map (int_of_operand names zs) (o ∷ os)))
+          ≡ int_or_overflow (added_up left (map (int_of_operand names zs) (o ∷ os)))
       by_test true e rest = rw e rest
       by_test false e rest = rw e refl
 

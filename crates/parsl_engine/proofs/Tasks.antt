@@ -1,27 +1,25 @@
 -- The tasks of a small script, and the rule of a call on them.
-use Rattle.std.proofs.Common.{◌≡◌, ℕ, zero, suc, ◌+◌, ◌<◌, Bool, true, false, IsTrue, cond, List, [], ◌∷◌, ◌++◌, length, map, refl, ap, ◌∙◌, sym, subst, Option, Some, None, option_map, bytes_eq, arith, append_assoc, add-zero, add-one, zero-add, append-nil, ltb}
-use Rattle.std.specs.Prelude.{ℤ, pos, ◌&&◌, ◌||◌, not, nat_eq, nat_lt, filter, slice_get}
-use Rattle.std.specs.List.{list_all, list_any, flat_map}
+use Rattle.std.proofs.Common.{◌≡◌, ℕ, zero, suc, ◌+◌, ◌<◌, Bool, true, false, List, [], ◌∷◌, ◌++◌, length, map, refl, ap, ◌∙◌, sym, subst, Option, Some, None, option_map, bytes_eq, arith, add-zero, zero-add}
+use Rattle.std.specs.Prelude.{ℤ, nat_lt, filter, slice_get}
+use Rattle.std.specs.List.{list_all, flat_map}
 use Rattle.std.proofs.lemmas.Bool.Decides.{nat_tests}
 use Rattle.std.proofs.lemmas.Option.{slice_get-map}
 use Rattle.std.proofs.lemmas.Slice.Eq.{bytes_eq-Decides}
-use Rattle.std.proofs.lemmas.Grind.{common_steps}
 use Rattle.flow_base.specs.declared.value.Value.{Value, out-Value, out-roll-Value, fold-roll-Value}
 use Rattle.flow_base.specs.declared.value.Value.TheOpen.{Value-F}
 use Rattle.flow_base.specs.declared.value.Value.TheVariants as v
 use Rattle.flow_base.specs.declared.outcome.Outcome.{Outcome}
 use Rattle.flow_base.specs.declared.outcome.Outcome.TheVariants as o
 use Rattle.flow_base.specs.Values.{units, levels, fits}
-use Rattle.script_tree.specs.declared.tree.AppDef.{AppDef}
 use Rattle.script_tree.specs.declared.small.SmallApp.{SmallApp}
 use Rattle.script_tree.specs.Small.{app_of}
-use Rattle.flow_meaning.specs.Inputs.{Path, distinct, path_in, paths_in, inputs, deep_in, are_deep}
+use Rattle.flow_meaning.specs.Inputs.{Path, distinct, paths_in, inputs, are_deep}
 use Rattle.flow_meaning.specs.Evaluations.{no_losses}
-use Rattle.flow_meaning.specs.Sequential.{Task, Tasks, outcome_at, failed, failed_among, replaced, replaced_in, resolved, Ran, settles, outcome_of, rule}
+use Rattle.flow_meaning.specs.Sequential.{Task, Tasks, outcome_at, failed, failed_among, resolved, settles, outcome_of, rule}
 use Rattle.parsl_engine.specs.declared.plan.Argument.{Argument}
 use Rattle.parsl_engine.specs.declared.plan.Argument.TheVariants as argument
 use Rattle.parsl_engine.specs.declared.plan.Call.{Call}
-use Rattle.parsl_engine.specs.Ints.{sum_of, ended_with, knows_parameters}
+use Rattle.parsl_engine.specs.Ints.{ended_with, knows_parameters}
 use Rattle.parsl_engine.specs.Plan.{int_at, int_of_argument, value_of_call, takes}
 use Rattle.parsl_engine.proofs.Sums.{and-true, out-Int}
 use Rattle.parsl_engine.proofs.Apps.{app-adds}
@@ -146,7 +144,6 @@ ints-fit [] = refl
 ints-fit (z ∷ zs) = rw (int-fits z) (ints-fit zs)
 
 -- ---- the rule of a call
-
 
 abbrev pub outcome_with : Option ℤ → Outcome
 outcome_with r = outcome_of (ended_with r)

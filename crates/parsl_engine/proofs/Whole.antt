@@ -1,10 +1,9 @@
 -- The sequential evaluation of a small script, by the values of its calls.
-use Rattle.std.proofs.Common.{◌≡◌, ℕ, zero, suc, ◌+◌, ◌<◌, ◌≤◌, Bool, true, false, List, [], ◌∷◌, ◌++◌, length, map, fold, refl, ap, ◌∙◌, sym, subst, Option, Some, None, Result, Ok, Err, bytes_eq, arith, append_assoc, add-zero, add-one, zero-add, append-nil, length-append}
-use Rattle.std.specs.Prelude.{ℤ, pos, ◌&&◌, not, slice_get}
+use Rattle.std.proofs.Common.{◌≡◌, ℕ, zero, suc, ◌<◌, Bool, true, false, List, [], ◌∷◌, ◌++◌, length, map, fold, refl, ap, ◌∙◌, sym, subst, Option, Some, None, Result, Ok, arith, append_assoc, zero-add, append-nil, length-append}
+use Rattle.std.specs.Prelude.{ℤ, not, slice_get}
 use Rattle.std.specs.List.{list_all}
 use Rattle.std.specs.Option.{option_and_then}
 use Rattle.flow_base.specs.declared.value.Value.{Value, out-Value}
-use Rattle.flow_base.specs.declared.value.Value.TheOpen.{Value-F}
 use Rattle.flow_base.specs.declared.value.Value.TheVariants as v
 use Rattle.flow_base.specs.declared.outcome.Exception.{Exception}
 use Rattle.flow_base.specs.declared.outcome.TaskEnd.{TaskEnd}
@@ -17,12 +16,11 @@ use Rattle.script_tree.specs.declared.small.SmallScript.{SmallScript}
 use Rattle.script_tree.specs.Small.{app_of, statement_of, main_of, tree_of}
 use Rattle.flow_meaning.specs.declared.walk.Request.{Request}
 use Rattle.flow_meaning.specs.declared.walk.Request.TheVariants as request
-use Rattle.flow_meaning.specs.declared.walk.Answer.{Answer}
-use Rattle.flow_meaning.specs.Act.{Act, Give, Throw, Ask, ◌>>=◌}
+use Rattle.flow_meaning.specs.Act.{Act, Give, Throw, Ask}
 use Rattle.flow_meaning.specs.Inputs.{Path, path_in}
 use Rattle.flow_meaning.specs.Operators.{Text}
-use Rattle.flow_meaning.specs.Meaning.{Done, body, done, max_turns, does}
-use Rattle.flow_meaning.specs.Sequential.{Task, Tasks, Main, MainAct, waits, main_ran, seq, app_names}
+use Rattle.flow_meaning.specs.Meaning.{Done, body, max_turns}
+use Rattle.flow_meaning.specs.Sequential.{Tasks, Main, MainAct, waits, main_ran, seq}
 use Rattle.flow_meaning.specs.Evaluations.{task_end, no_losses, evaluation, Overflows}
 use Rattle.parsl_engine.specs.declared.plan.Call.{Call}
 use Rattle.parsl_engine.specs.Ints.{is_among, is_known, knows_parameters}
@@ -131,7 +129,7 @@ called-is : (cs : List Call) (zs : List ℤ) (c : Call) (z : ℤ) (acts : List M
 called-is cs zs c z acts printed same =
     let counted : length (cs ++ c ∷ []) ≡ suc (length cs) = rw length-append (omega arith) in
     let pushed : tasks_from 0 (cs ++ c ∷ []) (zs ++ z ∷ []) ≡ tasks_from 0 cs zs ++ task_at (length cs) c (has_int z) ∷ []
-          = tasks-push 0 cs zs c z same ∙ ap (λ i. tasks_from 0 cs zs ++ task_at i c (has_int z) ∷ []) (zero-add (length cs)) in
+    = tasks-push 0 cs zs c z same ∙ ap (λ i. tasks_from 0 cs zs ++ task_at i c (has_int z) ∷ []) (zero-add (length cs)) in
     rw (counted, pushed) refl
 
 module _ (apps : List SmallApp) (known : list_all knows_parameters apps ≡ true) (left : ℕ) where
@@ -157,7 +155,7 @@ module _ (apps : List SmallApp) (known : list_all knows_parameters apps ≡ true
       let c : Call = call_in (names_of apps) names app os in
       let step = step-call apps known names cs zs named same left acts printed ss variable app os facts.fresh facts.given facts.enough in
       let rest = after-call (names ++ variable ∷ []) cs zs c _ printed ss all (value_of_call apps zs c) same is
-            (λ z e. ends ss (names ++ variable ∷ []) (cs ++ c ∷ []) (zs ++ z ∷ []) _ printed all (rw (length-append, length-append) (omega arith)) (rw (length-append, length-append) (omega arith)) facts.rest e) in
+      (λ z e. ends ss (names ++ variable ∷ []) (cs ++ c ∷ []) (zs ++ z ∷ []) _ printed all (rw (length-append, length-append) (omega arith)) (rw (length-append, length-append) (omega arith)) facts.rest e) in
       record { acts = rest.acts; is = step ∙ rest.is ∙ rw (append_assoc cs (c ∷ []) (new_calls (names_of apps) (names ++ variable ∷ []) ss)) refl }
   ends (small.Print variable ∷ ss) names cs zs acts printed all named same sound is =
       let both = and-true (is_among names variable) (is_sound_main apps names ss) sound in
@@ -189,7 +187,7 @@ module _ (apps : List SmallApp) (known : list_all knows_parameters apps ≡ true
       let c : Call = call_in (names_of apps) names app os in
       let step = step-call apps known names cs zs named same left acts printed ss variable app os facts.fresh facts.given facts.enough in
       rw step (overflow-call (names ++ variable ∷ []) cs zs c _ printed ss (value_of_call apps zs c) same is
-            (λ z e. overflows ss (names ++ variable ∷ []) (cs ++ c ∷ []) (zs ++ z ∷ []) _ printed (rw (length-append, length-append) (omega arith)) (rw (length-append, length-append) (omega arith)) facts.rest e))
+      (λ z e. overflows ss (names ++ variable ∷ []) (cs ++ c ∷ []) (zs ++ z ∷ []) _ printed (rw (length-append, length-append) (omega arith)) (rw (length-append, length-append) (omega arith)) facts.rest e))
   overflows (small.Print variable ∷ ss) names cs zs acts printed named same sound is =
       let both = and-true (is_among names variable) (is_sound_main apps names ss) sound in
       let k : ℕ = place_of names variable in

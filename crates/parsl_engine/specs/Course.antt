@@ -1,5 +1,5 @@
 -- How a call goes: what it asks of the outside, what it writes, and what its status says.
-use Rattle.std.specs.Prelude.{◌≡◌, ◌≢◌, ◌⊎◌, ℕ, ◌≤◌, ◌+◌, Bool, true, false, IsTrue, List, [], ◌∷◌, ◌++◌, take, option_map, codes, IfSome, None, Some}
+use Rattle.std.specs.Prelude.{◌≡◌, ◌≢◌, ◌⊎◌, ℕ, ◌+◌, Bool, true, IsTrue, List, [], ◌∷◌, ◌++◌, take, option_map, codes, IfSome, None, Some}
 use Rattle.std.specs.declared.option.Option.{Option}
 use Rattle.flow_base.specs.Causes.{Rose}
 use Rattle.flow_base.specs.Shelf.{ShelfState, Stand, Call}

@@ -1,5 +1,5 @@
 -- The tasks of a run.
-use Rattle.std.specs.Prelude.{◌≡◌, ℕ, suc, Bool, true, false, ◌&&◌, List, [], ◌∷◌, map, position, Option, Some, None, is_some, is_none, unwrap_or, slice_get, slice_set, ℤ, pos, Result, Ok, Err}
+use Rattle.std.specs.Prelude.{◌≡◌, ℕ, suc, Bool, true, false, ◌&&◌, List, [], ◌∷◌, Option, Some, None, is_some, is_none, unwrap_or, slice_get, slice_set, ℤ, pos, Result, Ok, Err}
 use Rattle.std.specs.List.{list_all}
 use Rattle.flow_base.specs.declared.outcome.TaskEnd.{TaskEnd}
 use Rattle.flow_base.specs.declared.outcome.Evaluation.{Evaluation}
@@ -11,7 +11,6 @@ use Rattle.parsl_engine.specs.declared.evaluate.ScriptFault.{ScriptFault}
 use Rattle.parsl_engine.specs.declared.evaluate.ScriptFault.TheVariants.{NotYet, NoMemory}
 use Rattle.parsl_engine.specs.declared.plan.Argument.{Argument}
 use Rattle.parsl_engine.specs.declared.plan.Argument.TheVariants as argument
-use Rattle.parsl_engine.specs.declared.plan.Call.{Call}
 use Rattle.parsl_engine.specs.declared.plan.Task.{Task}
 use Rattle.parsl_engine.specs.Plan.{end_of_call}
 

@@ -81,12 +81,7 @@ fn task_ends(alloc: Global, apps: &[AppDef], tasks: &[Task]) -> Result<TaskEnds,
     Ok(ends)
 }
 
-fn task_end(
-    alloc: Global,
-    apps: &[AppDef],
-    number: u32,
-    task: &Task,
-) -> Result<TaskEnd, AllocError>
+fn task_end(alloc: Global, apps: &[AppDef], number: u32, task: &Task) -> Result<TaskEnd, AllocError>
     requires { number < 2 ^ 32 - 1 }
     ensures { IfOk result (λ end. end ≡ end_of_call apps.now number task.now.call (unwrap_or task.now.value (pos 0))) }
 {

@@ -61,11 +61,7 @@ pub fn int_of(tasks: &[Task], argument: &Argument) -> i64
     }
 }
 
-fn arguments_of(
-    alloc: Global,
-    tasks: &[Task],
-    arguments: &[Argument],
-) -> Result<Items, AllocError>
+fn arguments_of(alloc: Global, tasks: &[Task], arguments: &[Argument]) -> Result<Items, AllocError>
     ensures { IfOk result (λ values. values ≡ map v.Int (map (int_in tasks.now) arguments.now)) }
 {
     let mut values = ListOf::new(alloc);

@@ -1,5 +1,4 @@
-use Rattle.std.proofs.Common.{◌≡◌, ◌∙◌, sym, refl, subst, ap, true, false, Some, None, arith, rules}
-use Rattle.parsl_engine.proofs.Settling.{HaveValues}
+use Rattle.std.proofs.Common.{sym, arith, rules}
 use Rattle.parsl_engine.proofs.Evaluating.{start, next, app-there, turn-keeps, turn-falls, turn-overflows, few-tasks, is-evaluation}
 use Rattle.parsl_engine.proofs.evaluate.evaluate.Goals as goal
 

@@ -1,4 +1,3 @@
-use Rattle.std.proofs.Common.{◌≡◌, ◌+◌}
 use Rattle.std.specs.Prelude.{is_none, count_by}
 use Rattle.parsl_engine.specs.declared.plan.Task.{Task}
 use Rattle.parsl_engine.specs.Plan.{plan_of, calls_of}

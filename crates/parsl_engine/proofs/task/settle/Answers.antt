@@ -1,4 +1,4 @@
-use Rattle.std.proofs.Common.{◌≡◌, ◌∙◌, sym, ap, Some, None, slice_set, refl}
+use Rattle.std.proofs.Common.{◌∙◌, sym, ap, slice_set}
 use Rattle.std.proofs.Common.{rules}
 use Rattle.parsl_engine.specs.declared.plan.Task.{Task}
 use Rattle.parsl_engine.proofs.Settling.{settled-none, settled-some}
