@@ -2,11 +2,11 @@
 #![tactic(auto)]
 
 pub mod ending;
-pub mod evaluate;
-pub mod output;
-pub mod plan;
-pub mod task;
-pub mod top;
-pub mod words;
+mod evaluate;
+mod output;
+mod plan;
+mod task;
+mod top;
+mod words;
 
 pub use top::parsl_top;

@@ -5,13 +5,16 @@ use parsl_engine::parsl_top;
 use std::alloc::{AllocError, Global};
 use std::test::Fail;
 
-const SUM: &[u8] = b"app add(a, b) {\n  return a + b;\n}\n\nmain {\n  let x = call add(1, 2);\n  let y = call add(x, 10);\n  print result(y);\n}\n";
+const SUM: &[u8] =
+    b"app add(a, b) {\n  return a + b;\n}\n\nmain {\n  let x = call add(1, 2);\n  let y = call add(x, 10);\n  print result(y);\n}\n";
 
 const SUM_OUT: &[u8] = b"print 13\ntask 1 add value 3\ntask 2 add value 13\nmain ended\n";
 
-const DIAMOND: &[u8] = b"app add(a, b) { return a + b; } main { let a = call add(1, 1); let b = call add(a, 10); let c = call add(a, 20); let d = call add(b, c); }";
+const DIAMOND: &[u8] =
+    b"app add(a, b) { return a + b; } main { let a = call add(1, 1); let b = call add(a, 10); let c = call add(a, 20); let d = call add(b, c); }";
 
-const DIAMOND_OUT: &[u8] = b"task 1 add value 2\ntask 2 add value 12\ntask 3 add value 22\ntask 4 add value 34\nmain ended\n";
+const DIAMOND_OUT: &[u8] =
+    b"task 1 add value 2\ntask 2 add value 12\ntask 3 add value 22\ntask 4 add value 34\nmain ended\n";
 
 const OVERFLOW: &[u8] =
     b"app next(a) { return a + 1; } main { let x = call next(9223372036854775807); }";
@@ -27,6 +30,7 @@ fn words_of(alloc: Global, words: &[&str]) -> Result<Words, AllocError> {
 }
 
 // What a run answers: its status, what it printed and what it wrote to err.
+#[derive(Drop)]
 struct Answer {
     status: u8,
     out: MemSink,
