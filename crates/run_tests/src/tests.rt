@@ -1,6 +1,6 @@
 //! Whole runs, from words and a script's bytes to a status, the output and the line on err.
 
-use flow_base::{MemShelf, MemSink, Word, Words};
+use flow_base::{Exception, MemShelf, MemSink, Text, Word, Words};
 use parsl_engine::parsl_top;
 use std::alloc::{AllocError, Global};
 use std::test::Fail;
@@ -93,6 +93,19 @@ fn a_sink_without_room_has_the_first_bytes(rt: HostRuntime) -> Result<(), Fail> 
         assert_eq!(rt; answer.status, 7);
         assert_eq!(rt; answer.out.bytes(), out);
         assert_eq!(rt; answer.err.bytes(), b"parsl: write\n".as_slice());
+    }
+    Ok(())
+}
+
+fn copied(alloc: Global) -> Result<Exception, AllocError> {
+    Exception::AppError(Text::of(alloc, "no")?).copy(alloc)
+}
+
+#[test]
+fn an_exception_is_copied_with_its_text(rt: HostRuntime) -> Result<(), Fail> {
+    match copied(rt.alloc())? {
+        Exception::AppError(text) => assert_eq!(rt; text.as_str(), "no"),
+        _ => panic!(rt; "another exception"),
     }
     Ok(())
 }
