@@ -1,0 +1,3 @@
+pub mod TreeFolds
+pub mod Trees
+pub mod CanonicalTexts
