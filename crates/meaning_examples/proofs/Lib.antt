@@ -1,3 +1,6 @@
 pub mod TreeFolds
 pub mod Trees
 pub mod CanonicalTexts
+pub mod StaticRules
+pub mod ValueFolds
+pub mod ShownValues
