@@ -4,3 +4,5 @@ pub mod CanonicalTexts
 pub mod StaticRules
 pub mod ValueFolds
 pub mod ShownValues
+pub mod Apps
+pub mod Performed

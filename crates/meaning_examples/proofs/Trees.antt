@@ -2,7 +2,8 @@
 use Rattle.std.proofs.Common.{ℕ, List, [], ◌∷◌, map, Option, Some, None, false}
 use Rattle.std.specs.Prelude.{ℤ, pos}
 use Rattle.script_tree.specs.declared.tree.SumOp.TheVariants.{Plus}
-use Rattle.script_tree.specs.declared.tree.TermOp.TheVariants.{Times}
+use Rattle.script_tree.specs.declared.tree.TermOp.{TermOp}
+use Rattle.script_tree.specs.declared.tree.TermOp.TheVariants.{Times, Over}
 use Rattle.script_tree.specs.declared.tree.Atom.{Atom}
 use Rattle.script_tree.specs.declared.tree.Atom.TheVariants as atom
 use Rattle.script_tree.specs.declared.tree.Post.{roll-Post}
@@ -42,6 +43,16 @@ calling app arguments = calling_to app arguments []
 abbrev pub call : Name → List Expr → Expr
 call app arguments = alone (atom.Call (calling app arguments))
 
+abbrev pub call_to : Name → List Expr → List Expr → Expr
+call_to app arguments names = alone (atom.Call (calling_to app arguments names))
+
+-- let variable = call app(arguments);
+abbrev pub let_call : Name → Name → List Expr → Statement
+let_call variable app arguments = statement.Let variable (call app arguments)
+
+abbrev pub text : List ℕ → Expr
+text t = alone (atom.Text t)
+
 abbrev pub built_in : Name → List Expr → Expr
 built_in name arguments = alone (atom.BuiltIn name arguments)
 
@@ -52,8 +63,14 @@ unary_of a = roll-Unary (record { op = None; post = roll-Post (record { atom = a
 abbrev pub sum : Atom → Atom → Expr
 sum a b = expr_of (roll-Sum (record { first = term_of a; others = roll-Added (record { op = Plus; term = term_of b }) ∷ [] }))
 
+abbrev pub term : TermOp → Atom → Atom → Expr
+term op a b = expr_of (roll-Sum (record { first = roll-Term (record { first = unary_of a; others = roll-Factor (record { op = op; unary = unary_of b }) ∷ [] }); others = [] }))
+
 abbrev pub product : Atom → Atom → Expr
-product a b = expr_of (roll-Sum (record { first = roll-Term (record { first = unary_of a; others = roll-Factor (record { op = Times; unary = unary_of b }) ∷ [] }); others = [] }))
+product = term Times
+
+abbrev pub quotient : Atom → Atom → Expr
+quotient = term Over
 
 abbrev pub block : List Statement → Block
 block statements = roll-Block (record { statements = statements })
