@@ -1,5 +1,5 @@
 -- A main performed statement by statement.
-use Rattle.std.proofs.Common.{◌≡◌, ℕ, List, [], ◌∷◌, map, refl, ap, ◌∙◌, sym, Result, Ok, Err}
+use Rattle.std.proofs.Common.{◌≡◌, ℕ, suc, List, [], ◌∷◌, ◌++◌, length, map, refl, ap, ◌∙◌, sym, Result, Ok, Err}
 use Rattle.script_tree.specs.declared.tree.Block.{roll-Block}
 use Rattle.script_tree.specs.declared.tree.Statement.{Statement}
 use Rattle.script_tree.specs.declared.tree.AppDef.{AppDef}
@@ -9,11 +9,17 @@ use Rattle.flow_meaning.specs.declared.walk.Request.{Request}
 use Rattle.flow_meaning.specs.declared.walk.Answer.{Answer}
 use Rattle.flow_meaning.specs.Act.{Act, Give, Throw, Ask, ◌>>=◌}
 use Rattle.flow_meaning.specs.Operators.{Text}
-use Rattle.flow_meaning.specs.Inputs.{Path}
-use Rattle.flow_meaning.specs.Meaning.{State, Flow, Goes, Returns, Done, doing, sequence, and_then, done, body, max_turns}
-use Rattle.flow_meaning.specs.Sequential.{Main, perform, main_answer, rule, main_ran, app_names, at_start}
+use Rattle.flow_meaning.specs.Inputs.{inputs}
+use Rattle.flow_meaning.specs.declared.walk.Request.TheVariants as request
+use Rattle.flow_meaning.specs.Told.{called_value}
+use Rattle.flow_base.specs.declared.value.Value.{Value}
+use Rattle.flow_base.specs.declared.value.Value.TheVariants as v
+use Rattle.script_tree.specs.declared.tree.Expr.{Expr}
+use Rattle.script_tree.specs.declared.tree.Statement.TheVariants as statement
+use Rattle.flow_meaning.specs.Meaning.{Vars, value_of, put, sets, State, Flow, Goes, Returns, Done, doing, sequence, and_then, done, body, max_turns}
+use Rattle.flow_meaning.specs.Sequential.{Rule, Ran, Task, Calls, Main, perform, main_answer, rule, main_ran, app_names, at_start}
 use Rattle.flow_meaning.specs.Evaluations.{no_losses}
-use Rattle.meaning_examples.proofs.TreeFolds.{block-used}
+use Rattle.meaning_examples.proofs.TreeFolds.{block-used, let-used}
 
 abbrev pub Answers : Type 0 → Type 0
 Answers S = Request → S → Answer × S
@@ -49,17 +55,61 @@ module _ {S : Type 0} (answer : Answers S) (apps names : List Text) where
       ∙ (ap (then_perform answer (done names)) (perform-bind answer (fold_statement (doing apps names) st s) (λ f. and_then f (sequence (map (fold_statement (doing apps names)) ss))) at)
       ∙ further-is ss (statements-performed ss) (perform answer (fold_statement (doing apps names) st s) at))
 
--- ---- main
+-- ---- main, without losses
 
-abbrev pub started : State
-started = record { vars = []; written = []; left = max_turns }
+module _ (apps : List AppDef) where
+  abbrev pub names_in : List Text
+  names_in = app_names apps no_losses
 
--- main with these statements, without losses
-abbrev pub main_further : List AppDef → List Statement → Result Done Exception × Main
-main_further apps ss = further (main_answer (rule apps no_losses 63)) (app_names apps no_losses) [] (Ok (Goes started)) at_start ss
+  abbrev pub settled : Rule
+  settled = rule apps no_losses 63
 
-pub main-performed : (apps : List AppDef) (ss : List Statement) → main_ran apps (roll-Block (record { statements = ss })) no_losses ≡ main_further apps ss
-unfolding main_ran body
-main-performed apps ss =
-    ap (λ act. perform (main_answer (rule apps no_losses 63)) (act >>= done []) at_start) (block-used (doing (app_names apps no_losses) []) ss started)
-    ∙ statements-performed (main_answer (rule apps no_losses 63)) (app_names apps no_losses) [] ss started at_start
+  -- what main gives from here on, with these variables
+  pub main_from : List Statement → Vars → Main → Result Done Exception × Main
+  main_from ss vars m = further (main_answer settled) names_in [] (Ok (Goes (record { vars = vars; written = []; left = max_turns }))) m ss
+
+  pub main-performed : (ss : List Statement) (end : Result Done Exception × Main) → main_from ss [] at_start ≡ end → main_ran apps (roll-Block (record { statements = ss })) no_losses ≡ end
+  unfolding main_ran body main_from
+  main-performed ss end rest =
+      let s : State = record { vars = []; written = []; left = max_turns } in
+      ap (λ act. perform (main_answer settled) (act >>= done []) at_start) (block-used (doing names_in []) ss s)
+      ∙ (statements-performed (main_answer settled) names_in [] ss s at_start ∙ rest)
+
+  -- a call of main, with its outcome and the tasks below it
+  abbrev pub with_call : Main → ℕ → List Value → List Text → Ran → Main
+  with_call m app arguments names ran =
+      let task : Task = record { path = suc m.made.calls ∷ []; app = app; arguments = arguments; names = names; inputs = inputs arguments; outcome = ran.outcome } in
+      record m { made = record { calls = suc m.made.calls; tasks = m.made.tasks ++ task ∷ ran.below }; acts = m.acts ++ Calls (suc m.made.calls ∷ []) ∷ [] }
+
+  call-performed : (name : Text) (e : Expr) (s : State) (m : Main) (app : ℕ) (arguments : List Value) (names : List Text)
+      → value_of names_in e s.vars ≡ Ask (request.Call app arguments names) called_value
+      → perform (main_answer settled) (fold_statement (doing names_in []) (statement.Let name e) s) m
+      ≡ (Ok (Goes (record s { vars = put s.vars name (v.Future (suc m.made.calls ∷ []) (length names)) })), with_call m app arguments names (settled (suc m.made.calls ∷ []) app arguments names m.made.tasks))
+  call-performed name e s m app arguments names asks =
+      ap (λ act. perform (main_answer settled) act m) (let-used (doing names_in []) name e s ∙ ap (λ (act : Act Value). act >>= (λ value. sets name value s)) asks)
+
+  -- a call whose future is named, with what the rule gives it
+  pub let-performed : (name : Text) (e : Expr) (ss : List Statement) (vars : Vars) (m : Main) (end : Result Done Exception × Main)
+      → (app : ℕ) (arguments : List Value) (names : List Text) (ran : Ran)
+      → value_of names_in e vars ≡ Ask (request.Call app arguments names) called_value
+      → settled (suc m.made.calls ∷ []) app arguments names m.made.tasks ≡ ran
+      → main_from ss (put vars name (v.Future (suc m.made.calls ∷ []) (length names))) (with_call m app arguments names ran) ≡ end
+      → main_from (statement.Let name e ∷ ss) vars m ≡ end
+  unfolding main_from
+  let-performed name e ss vars m end app arguments names ran asks gives rest =
+      let s : State = record { vars = vars; written = []; left = max_turns } in
+      ap (λ (r : Result Flow Exception × Main). further (main_answer settled) names_in [] r.0 r.1 ss) (call-performed name e s m app arguments names asks)
+      ∙ (ap (λ ran. main_from ss (put vars name (v.Future (suc m.made.calls ∷ []) (length names))) (with_call m app arguments names ran)) gives ∙ rest)
+
+  -- a statement that throws ends main
+  pub throw-performed : (st : Statement) (ss : List Statement) (vars : Vars) (m : Main) (exception : Exception) (after : Main)
+      → perform (main_answer settled) (fold_statement (doing names_in []) st (record { vars = vars; written = []; left = max_turns })) m ≡ (Err exception, after)
+      → main_from (st ∷ ss) vars m ≡ (Err exception, after)
+  unfolding main_from
+  throw-performed st ss vars m exception after throws =
+      ap (λ (r : Result Flow Exception × Main). further (main_answer settled) names_in [] r.0 r.1 ss) throws
+
+  -- main ends
+  pub end-performed : (vars : Vars) (m : Main) → main_from [] vars m ≡ (Ok (v.Nothing, []), m)
+  unfolding main_from
+  end-performed vars m = refl
