@@ -6,3 +6,7 @@ pub mod ValueFolds
 pub mod ShownValues
 pub mod Apps
 pub mod Performed
+pub mod FailedInputs
+pub mod Joins
+pub mod RaisedMain
+pub mod MissingOutputs

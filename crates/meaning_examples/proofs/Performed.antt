@@ -9,7 +9,7 @@ use Rattle.flow_meaning.specs.declared.walk.Request.{Request}
 use Rattle.flow_meaning.specs.declared.walk.Answer.{Answer}
 use Rattle.flow_meaning.specs.Act.{Act, Give, Throw, Ask, ◌>>=◌}
 use Rattle.flow_meaning.specs.Operators.{Text}
-use Rattle.flow_meaning.specs.Inputs.{inputs}
+use Rattle.flow_meaning.specs.Inputs.{Path, inputs}
 use Rattle.flow_meaning.specs.declared.walk.Request.TheVariants as request
 use Rattle.flow_meaning.specs.Told.{called_value}
 use Rattle.flow_base.specs.declared.value.Value.{Value}
@@ -19,7 +19,7 @@ use Rattle.script_tree.specs.declared.tree.Statement.TheVariants as statement
 use Rattle.flow_meaning.specs.Meaning.{Vars, value_of, put, sets, State, Flow, Goes, Returns, Done, doing, sequence, and_then, done, body, max_turns}
 use Rattle.flow_meaning.specs.Sequential.{Rule, Ran, Task, Calls, Main, perform, main_answer, rule, main_ran, app_names, at_start}
 use Rattle.flow_meaning.specs.Evaluations.{no_losses}
-use Rattle.meaning_examples.proofs.TreeFolds.{block-used, let-used}
+use Rattle.meaning_examples.proofs.TreeFolds.{block-used, let-used, tree_folds}
 
 abbrev pub Answers : Type 0 → Type 0
 Answers S = Request → S → Answer × S
@@ -32,6 +32,11 @@ pub perform-bind : {A B S : Type 0} (answer : Answers S) (a : Act A) (f : A → 
 perform-bind answer (Give x) f s = refl
 perform-bind answer (Throw e) f s = refl
 perform-bind answer (Ask w go) f s = perform-bind answer (go (answer w s).0) f (answer w s).1
+
+pub bind-give : {A : Type 0} (a : Act A) → (a >>= (λ x. Give x)) ≡ a
+bind-give (Give x) = refl
+bind-give (Throw e) = refl
+bind-give (Ask w go) = λ i. Ask w (λ r. bind-give (go r) i)
 
 module _ {S : Type 0} (answer : Answers S) (apps names : List Text) where
   -- what is left of a body, behind what its last statement gave
@@ -75,31 +80,33 @@ module _ (apps : List AppDef) where
       ap (λ act. perform (main_answer settled) (act >>= done []) at_start) (block-used (doing names_in []) ss s)
       ∙ (statements-performed (main_answer settled) names_in [] ss s at_start ∙ rest)
 
-  -- a call of main, with its outcome and the tasks below it
-  abbrev pub with_call : Main → ℕ → List Value → List Text → Ran → Main
-  with_call m app arguments names ran =
-      let task : Task = record { path = suc m.made.calls ∷ []; app = app; arguments = arguments; names = names; inputs = inputs arguments; outcome = ran.outcome } in
+  -- a call of main that waits for these paths, with its outcome and the tasks below it
+  abbrev pub with_call : Main → ℕ → List Value → List Text → List Path → Ran → Main
+  with_call m app arguments names paths ran =
+      let task : Task = record { path = suc m.made.calls ∷ []; app = app; arguments = arguments; names = names; inputs = paths; outcome = ran.outcome } in
       record m { made = record { calls = suc m.made.calls; tasks = m.made.tasks ++ task ∷ ran.below }; acts = m.acts ++ Calls (suc m.made.calls ∷ []) ∷ [] }
 
   call-performed : (name : Text) (e : Expr) (s : State) (m : Main) (app : ℕ) (arguments : List Value) (names : List Text)
       → value_of names_in e s.vars ≡ Ask (request.Call app arguments names) called_value
       → perform (main_answer settled) (fold_statement (doing names_in []) (statement.Let name e) s) m
-      ≡ (Ok (Goes (record s { vars = put s.vars name (v.Future (suc m.made.calls ∷ []) (length names)) })), with_call m app arguments names (settled (suc m.made.calls ∷ []) app arguments names m.made.tasks))
+      ≡ (Ok (Goes (record s { vars = put s.vars name (v.Future (suc m.made.calls ∷ []) (length names)) })), with_call m app arguments names (inputs arguments) (settled (suc m.made.calls ∷ []) app arguments names m.made.tasks))
   call-performed name e s m app arguments names asks =
       ap (λ act. perform (main_answer settled) act m) (let-used (doing names_in []) name e s ∙ ap (λ (act : Act Value). act >>= (λ value. sets name value s)) asks)
 
-  -- a call whose future is named, with what the rule gives it
+  -- a call whose future is named, with the paths that it waits for and what the rule gives it
   pub let-performed : (name : Text) (e : Expr) (ss : List Statement) (vars : Vars) (m : Main) (end : Result Done Exception × Main)
-      → (app : ℕ) (arguments : List Value) (names : List Text) (ran : Ran)
+      → (app : ℕ) (arguments : List Value) (names : List Text) (paths : List Path) (ran : Ran)
       → value_of names_in e vars ≡ Ask (request.Call app arguments names) called_value
+      → inputs arguments ≡ paths
       → settled (suc m.made.calls ∷ []) app arguments names m.made.tasks ≡ ran
-      → main_from ss (put vars name (v.Future (suc m.made.calls ∷ []) (length names))) (with_call m app arguments names ran) ≡ end
+      → main_from ss (put vars name (v.Future (suc m.made.calls ∷ []) (length names))) (with_call m app arguments names paths ran) ≡ end
       → main_from (statement.Let name e ∷ ss) vars m ≡ end
   unfolding main_from
-  let-performed name e ss vars m end app arguments names ran asks gives rest =
+  let-performed name e ss vars m end app arguments names paths ran asks waits gives rest =
       let s : State = record { vars = vars; written = []; left = max_turns } in
+      let next : List Path → Ran → Result Done Exception × Main = λ paths ran. main_from ss (put vars name (v.Future (suc m.made.calls ∷ []) (length names))) (with_call m app arguments names paths ran) in
       ap (λ (r : Result Flow Exception × Main). further (main_answer settled) names_in [] r.0 r.1 ss) (call-performed name e s m app arguments names asks)
-      ∙ (ap (λ ran. main_from ss (put vars name (v.Future (suc m.made.calls ∷ []) (length names))) (with_call m app arguments names ran)) gives ∙ rest)
+      ∙ (ap (λ paths. next paths (settled (suc m.made.calls ∷ []) app arguments names m.made.tasks)) waits ∙ (ap (next paths) gives ∙ rest))
 
   -- a statement that throws ends main
   pub throw-performed : (st : Statement) (ss : List Statement) (vars : Vars) (m : Main) (exception : Exception) (after : Main)
@@ -113,3 +120,6 @@ module _ (apps : List AppDef) where
   pub end-performed : (vars : Vars) (m : Main) → main_from [] vars m ≡ (Ok (v.Nothing, []), m)
   unfolding main_from
   end-performed vars m = refl
+
+-- what an expression asks for
+pub ruleset asking = (tree_folds, bind-give)
