@@ -20,7 +20,7 @@ use Rattle.flow_meaning.specs.Sequential.{seq, main_ran, apply, resolved, join_o
 use Rattle.flow_meaning.specs.Evaluations.{evaluation, evaluation_in, no_losses}
 use Rattle.meaning_examples.proofs.TreeFolds.{tree_folds}
 use Rattle.meaning_examples.proofs.ValueFolds.{value_folds}
-use Rattle.meaning_examples.proofs.Performed.{asking, main-performed, settled, let-performed, throw-performed, end-performed}
+use Rattle.meaning_examples.proofs.Performed.{asking, main-performed, settled, let-performed, failed-performed, end-performed}
 use Rattle.meaning_examples.proofs.Trees.{variable, number, text, list, call, let_call, call_to, built_in, block, plain_app}
 use Rattle.meaning_examples.proofs.Apps.{div, one-by-zero, eight-by-two}
 use Rattle.flow_meaning.specs.Sequential.{Ran}
@@ -72,8 +72,8 @@ pub ran-joins : main_ran joins.0 joins.1 no_losses ≡ (Ok (v.Nothing, []), reco
 unfolding inputs are_deep resolved
 ran-joins = main-performed _ _ _ (
     let-performed _ _ _ _ _ _ _ 0 (v.Int (pos 8) ∷ v.Int (pos 2) ∷ []) [] [] (settles (o.Value (v.Int (pos 4)) [])) (simp asking) (simp value_folds) (simp (eight-by-two, value_folds)) (
-    let-performed _ _ _ _ _ _ _ 1 [] [] [] (settles (o.Failed x.TypeError)) (simp asking) refl (five-ran _) (
-    let-performed _ _ _ _ _ _ _ 2 [] [] [] bad_ran (simp asking) refl (bad-ran _) (
+    let-performed _ _ _ _ _ _ _ 1 [] [] [] (settles (o.Failed x.TypeError)) (simp asking) refl (five-ran (divided ∷ [])) (
+    let-performed _ _ _ _ _ _ _ 2 [] [] [] bad_ran (simp asking) refl (bad-ran (divided ∷ joined (2 ∷ []) 1 (settles (o.Failed x.TypeError)))) (
     end-performed _ _ _))))
 
 pub head-joins : head_text (evaluation joins) ≡ codes "task 1 div value 4\ntask 2 five exception TypeError\ntask 3 bad exception JoinError 3.1\ntask 3.1 div exception ZeroDivisionError\nmain ended\n"

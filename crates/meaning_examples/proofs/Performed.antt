@@ -1,5 +1,5 @@
 -- A main performed statement by statement.
-use Rattle.std.proofs.Common.{◌≡◌, ℕ, suc, List, [], ◌∷◌, ◌++◌, length, map, refl, ap, ◌∙◌, sym, Result, Ok, Err}
+use Rattle.std.proofs.Common.{◌≡◌, ℕ, suc, List, [], ◌∷◌, ◌++◌, length, map, refl, ap, ◌∙◌, sym, Some, Result, Ok, Err}
 use Rattle.script_tree.specs.declared.tree.Block.{roll-Block}
 use Rattle.script_tree.specs.declared.tree.Statement.{Statement}
 use Rattle.script_tree.specs.declared.tree.AppDef.{AppDef}
@@ -9,17 +9,23 @@ use Rattle.flow_meaning.specs.declared.walk.Request.{Request}
 use Rattle.flow_meaning.specs.declared.walk.Answer.{Answer}
 use Rattle.flow_meaning.specs.Act.{Act, Give, Throw, Ask, ◌>>=◌}
 use Rattle.flow_meaning.specs.Operators.{Text}
-use Rattle.flow_meaning.specs.Inputs.{Path, inputs}
+use Rattle.flow_meaning.specs.Inputs.{Path, path_in, inputs}
 use Rattle.flow_meaning.specs.declared.walk.Request.TheVariants as request
-use Rattle.flow_meaning.specs.Told.{called_value}
+use Rattle.flow_meaning.specs.Told.{called_value, result_of, awaits, awaited_value, told_value}
+use Rattle.flow_meaning.specs.Operators.{Layer}
+use Rattle.flow_base.specs.declared.value.Value.TheOpen.{Value-F}
+use Rattle.flow_base.specs.declared.outcome.FileOut.{FileOut}
+use Rattle.flow_base.specs.declared.outcome.Outcome.{Outcome}
+use Rattle.flow_base.specs.declared.outcome.Outcome.TheVariants as o
+use Rattle.meaning_examples.proofs.ValueFolds.{out-future}
 use Rattle.flow_base.specs.declared.value.Value.{Value}
 use Rattle.flow_base.specs.declared.value.Value.TheVariants as v
 use Rattle.script_tree.specs.declared.tree.Expr.{Expr}
 use Rattle.script_tree.specs.declared.tree.Statement.TheVariants as statement
 use Rattle.flow_meaning.specs.Meaning.{Vars, value_of, put, sets, State, Flow, Goes, Returns, Done, doing, sequence, and_then, done, body, max_turns}
-use Rattle.flow_meaning.specs.Sequential.{Rule, Ran, Task, Calls, Main, perform, main_answer, rule, main_ran, app_names, at_start}
+use Rattle.flow_meaning.specs.Sequential.{Rule, Ran, Task, Calls, Waits, Prints, Main, acted, waits, outcome_at, outcome_answer, perform, main_answer, rule, main_ran, app_names, at_start}
 use Rattle.flow_meaning.specs.Evaluations.{no_losses}
-use Rattle.meaning_examples.proofs.TreeFolds.{block-used, let-used, tree_folds}
+use Rattle.meaning_examples.proofs.TreeFolds.{block-used, let-used, print-used, tree_folds}
 
 abbrev pub Answers : Type 0 → Type 0
 Answers S = Request → S → Answer × S
@@ -108,13 +114,45 @@ module _ (apps : List AppDef) where
       ap (λ (r : Result Flow Exception × Main). further (main_answer settled) names_in [] r.0 r.1 ss) (call-performed name e s m app arguments names asks)
       ∙ (ap (λ paths. next paths (settled (suc m.made.calls ∷ []) app arguments names m.made.tasks)) waits ∙ (ap (next paths) gives ∙ rest))
 
-  -- a statement that throws ends main
-  pub throw-performed : (st : Statement) (ss : List Statement) (vars : Vars) (m : Main) (exception : Exception) (after : Main)
-      → perform (main_answer settled) (fold_statement (doing names_in []) st (record { vars = vars; written = []; left = max_turns })) m ≡ (Err exception, after)
-      → main_from (st ∷ ss) vars m ≡ (Err exception, after)
+  -- what is printed is the result of a future, behind what main had done
+  abbrev pub printing : Main → Vars → Act Value → Result Flow Exception × Main
+  printing m vars act = perform (main_answer settled) (act >>= (λ value. Ask (request.Print value) (λ _. Give (Goes (record { vars = vars; written = []; left = max_turns }))))) m
+
+  print-performed : (e : Expr) (ss : List Statement) (vars : Vars) (m : Main) (path : Path) (outputs : ℕ) (outcome : Outcome)
+      → value_of names_in e vars ≡ result_of (v.Future path outputs)
+      → outcome_at m.made.tasks path ≡ Some outcome
+      → perform (main_answer settled) (fold_statement (doing names_in []) (statement.Print e) (record { vars = vars; written = []; left = max_turns })) m
+      ≡ printing (acted m (Waits path)) vars (told_value (Value-F.Future path outputs) outcome)
+  unfolding result_of
+  print-performed e ss vars m path outputs outcome asks has =
+      let behind : Answer × Main → Layer → Result Flow Exception × Main = λ r layer. printing r.1 vars (awaited_value layer r.0) in
+      ap (λ act. perform (main_answer settled) act m) (print-used (doing names_in []) e (record { vars = vars; written = []; left = max_turns }))
+      ∙ (ap (printing m vars) asks
+      ∙ (ap (λ layer. printing m vars (awaits layer (Ask (request.WaitValue (v.Future path outputs)) (awaited_value layer)))) (out-future path outputs)
+      ∙ (ap (λ (layer : Layer). behind (waits m (path_in layer)) (Value-F.Future path outputs)) (out-future path outputs)
+      ∙ ap (λ outcome. behind (outcome_answer outcome, acted m (Waits path)) (Value-F.Future path outputs)) has)))
+
+  -- the result of a call that failed ends main with its exception
+  pub failed-performed : (e : Expr) (ss : List Statement) (vars : Vars) (m : Main) (after : Main) (exception : Exception) (path : Path) (outputs : ℕ)
+      → value_of names_in e vars ≡ result_of (v.Future path outputs)
+      → outcome_at m.made.tasks path ≡ Some (o.Failed exception)
+      → acted m (Waits path) ≡ after
+      → main_from (statement.Print e ∷ ss) vars m ≡ (Err exception, after)
   unfolding main_from
-  throw-performed st ss vars m exception after throws =
-      ap (λ (r : Result Flow Exception × Main). further (main_answer settled) names_in [] r.0 r.1 ss) throws
+  failed-performed e ss vars m after exception path outputs asks has is =
+      ap (λ (r : Result Flow Exception × Main). further (main_answer settled) names_in [] r.0 r.1 ss) (print-performed e ss vars m path outputs (o.Failed exception) asks has)
+      ∙ ap (λ m. (Err exception, m)) is
+
+  -- the result of a call that has a value is printed
+  pub value-performed : (e : Expr) (ss : List Statement) (vars : Vars) (m : Main) (end : Result Done Exception × Main) (path : Path) (outputs : ℕ) (value : Value) (files : List FileOut)
+      → value_of names_in e vars ≡ result_of (v.Future path outputs)
+      → outcome_at m.made.tasks path ≡ Some (o.Value value files)
+      → main_from ss vars (record (acted (acted m (Waits path)) (Prints value)) { printed = m.printed ++ value ∷ [] }) ≡ end
+      → main_from (statement.Print e ∷ ss) vars m ≡ end
+  unfolding main_from
+  value-performed e ss vars m end path outputs value files asks has rest =
+      ap (λ (r : Result Flow Exception × Main). further (main_answer settled) names_in [] r.0 r.1 ss) (print-performed e ss vars m path outputs (o.Value value files) asks has)
+      ∙ rest
 
   -- main ends
   pub end-performed : (vars : Vars) (m : Main) → main_from [] vars m ≡ (Ok (v.Nothing, []), m)

@@ -19,7 +19,7 @@ use Rattle.flow_meaning.specs.Sequential.{seq, main_ran, apply, resolved, join_o
 use Rattle.flow_meaning.specs.Evaluations.{evaluation, evaluation_in, no_losses}
 use Rattle.meaning_examples.proofs.TreeFolds.{tree_folds}
 use Rattle.meaning_examples.proofs.ValueFolds.{value_folds}
-use Rattle.meaning_examples.proofs.Performed.{asking, main-performed, let-performed, throw-performed, end-performed}
+use Rattle.meaning_examples.proofs.Performed.{asking, main-performed, let-performed, failed-performed, end-performed}
 use Rattle.meaning_examples.proofs.Trees.{variable, number, text, list, call, let_call, call_to, built_in, block, plain_app}
 use Rattle.meaning_examples.proofs.Apps.{div, one-by-zero}
 
@@ -34,10 +34,10 @@ abbrev pub failed : Task
 failed = record { path = 1 ∷ []; app = 0; arguments = v.Int (pos 1) ∷ v.Int (pos 0) ∷ []; names = []; inputs = []; outcome = o.Failed x.ZeroDivisionError }
 
 pub ran-prints_failed : main_ran prints_failed.0 prints_failed.1 no_losses ≡ (Err x.ZeroDivisionError, record { made = record { calls = 1; tasks = failed ∷ [] }; acts = Calls (1 ∷ []) ∷ Waits (1 ∷ []) ∷ []; printed = [] })
-unfolding inputs are_deep resolved result_of built_in_named
+unfolding inputs are_deep resolved built_in_named
 ran-prints_failed = main-performed _ _ _ (
     let-performed _ _ _ _ _ _ _ 0 (v.Int (pos 1) ∷ v.Int (pos 0) ∷ []) [] [] (settles (o.Failed x.ZeroDivisionError)) (simp asking) (simp value_folds) (simp (one-by-zero, value_folds)) (
-    throw-performed _ _ _ _ _ _ _ (simp (tree_folds, value_folds))))
+    failed-performed _ _ _ _ _ _ _ (1 ∷ []) 0 (simp asking) refl refl))
 
 -- the exception of the failed call ends main, and the call behind isn't made
 pub head-prints_failed : head_text (evaluation prints_failed) ≡ codes "task 1 div exception ZeroDivisionError\nmain raised ZeroDivisionError\n"
