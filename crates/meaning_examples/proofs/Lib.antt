@@ -10,3 +10,5 @@ pub mod FailedInputs
 pub mod Joins
 pub mod RaisedMain
 pub mod MissingOutputs
+pub mod PrintedResults
+pub mod WrittenOutputs

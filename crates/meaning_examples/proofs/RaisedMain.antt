@@ -19,7 +19,7 @@ use Rattle.flow_meaning.specs.Sequential.{seq, main_ran, apply, resolved, join_o
 use Rattle.flow_meaning.specs.Evaluations.{evaluation, evaluation_in, no_losses}
 use Rattle.meaning_examples.proofs.TreeFolds.{tree_folds}
 use Rattle.meaning_examples.proofs.ValueFolds.{value_folds}
-use Rattle.meaning_examples.proofs.Performed.{asking, main-performed, let-performed, failed-performed, end-performed}
+use Rattle.meaning_examples.proofs.Performed.{asking, main-performed, let-performed, failed-performed, value-performed, end-performed}
 use Rattle.meaning_examples.proofs.Trees.{variable, number, text, list, call, let_call, call_to, built_in, block, plain_app}
 use Rattle.meaning_examples.proofs.Apps.{div, one-by-zero}
 

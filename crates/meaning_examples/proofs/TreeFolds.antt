@@ -107,6 +107,10 @@ module _ {D : Type 0} (s : BlockSteps D) where
   unfolding fold_statement
   print-folded e = ap (fold_statement s) (sym (statement.rolls-Print e)) ∙ fold-roll-Statement _ _ _ _ _
 
+  pub write-folded : (e : Expr) (text : Expr) → fold_statement s (statement.Write e text) ≡ s.statement (Statement-F.Write e text)
+  unfolding fold_statement
+  write-folded e text = ap (fold_statement s) (sym (statement.rolls-Write e text)) ∙ fold-roll-Statement _ _ _ _ _
+
   pub call_statement-folded : (call : CallExpr) → fold_statement s (statement.Call call) ≡ s.statement (Statement-F.Call call)
   unfolding fold_statement
   call_statement-folded call = ap (fold_statement s) (sym (statement.rolls-Call call)) ∙ fold-roll-Statement _ _ _ _ _
@@ -168,7 +172,10 @@ module _ {V R : Type 0} (s : BlockSteps (V → R)) where
   pub print-used : (e : Expr) (v : V) → fold_statement s (statement.Print e) v ≡ s.statement (Statement-F.Print e) v
   print-used e v = ap (λ f. f v) (print-folded s e)
 
+  pub write-used : (e : Expr) (text : Expr) (v : V) → fold_statement s (statement.Write e text) v ≡ s.statement (Statement-F.Write e text) v
+  write-used e text v = ap (λ f. f v) (write-folded s e text)
+
   pub call_statement-used : (call : CallExpr) (v : V) → fold_statement s (statement.Call call) v ≡ s.statement (Statement-F.Call call) v
   call_statement-used call v = ap (λ f. f v) (call_statement-folded s call)
 
-pub ruleset tree_folds = (block-used, let-used, return-used, print-used, call_statement-used, post-used, unary-used, term-used, sum-used, comp-used, conj-used, expr-used, call-used, number-used, text-used, variable-used, built_in-used, call_atom-used, list-used, post-folded, unary-folded, term-folded, factor-folded, added-folded, sum-folded, comp-folded, conj-folded, expr-folded, call-folded, number-folded, text-folded, variable-folded, built_in-folded, call_atom-folded, list-folded, block-folded, let-folded, return-folded, print-folded, call_statement-folded)
+pub ruleset tree_folds = (block-used, let-used, return-used, print-used, write-used, call_statement-used, post-used, unary-used, term-used, sum-used, comp-used, conj-used, expr-used, call-used, number-used, text-used, variable-used, built_in-used, call_atom-used, list-used, post-folded, unary-folded, term-folded, factor-folded, added-folded, sum-folded, comp-folded, conj-folded, expr-folded, call-folded, number-folded, text-folded, variable-folded, built_in-folded, call_atom-folded, list-folded, block-folded, let-folded, return-folded, print-folded, write-folded, call_statement-folded)
