@@ -1,5 +1,5 @@
 -- Apps that several examples call, and what they give.
-use Rattle.std.proofs.Common.{◌≡◌, List, [], ◌∷◌, codes}
+use Rattle.std.proofs.Common.{◌≡◌, [], ◌∷◌, codes}
 use Rattle.std.specs.Prelude.{pos}
 use Rattle.flow_base.specs.declared.value.Value.TheVariants as v
 use Rattle.flow_base.specs.declared.outcome.Exception.TheVariants as x

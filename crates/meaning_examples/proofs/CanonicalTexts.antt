@@ -1,5 +1,5 @@
 -- The canonical texts of a main and of an app.
-use Rattle.std.proofs.Common.{◌≡◌, List, [], ◌∷◌, ◌++◌, refl, codes, true}
+use Rattle.std.proofs.Common.{◌≡◌, [], ◌∷◌, codes, true}
 use Rattle.std.specs.Prelude.{pos}
 use Rattle.std.specs.Fmt.{digits}
 use Rattle.script_tree.specs.declared.tree.Atom.TheVariants as atom

@@ -1,35 +1,32 @@
 -- Calls whose inputs failed.
-use Rattle.std.proofs.Common.{◌≡◌, ℕ, List, [], ◌∷◌, refl, ap, ◌∙◌, codes, true, Result, Ok, Err}
-use Rattle.std.specs.Prelude.{pos, Some}
+use Rattle.std.proofs.Common.{◌≡◌, List, [], ◌∷◌, ap, ◌∙◌, codes, Ok}
+use Rattle.std.specs.Prelude.{pos}
 use Rattle.std.specs.Fmt.{digits}
 use Rattle.flow_base.specs.declared.value.Value.TheVariants as v
 use Rattle.flow_base.specs.declared.outcome.Exception.TheVariants as x
 use Rattle.flow_base.specs.declared.outcome.Outcome.TheVariants as o
-use Rattle.flow_base.specs.declared.outcome.Ended.TheVariants as ended
 use Rattle.script_tree.specs.declared.tree.Statement.TheVariants as statement
 use Rattle.script_tree.specs.declared.tree.AppDef.{AppDef}
 use Rattle.script_tree.specs.Grammar.{Tree}
-use Rattle.script_tree.specs.BuiltIns.{built_in_named}
-use Rattle.run_report.specs.Shown.{head_text, shown, exception_text, raised_line}
+use Rattle.run_report.specs.Shown.{head_text, shown, exception_text}
 use Rattle.flow_meaning.specs.Inputs.{inputs, are_deep}
-use Rattle.flow_meaning.specs.Operators.{int_of, text_of, multiplied, added}
-use Rattle.flow_meaning.specs.Told.{result_of}
-use Rattle.flow_meaning.specs.Meaning.{body}
-use Rattle.flow_meaning.specs.Sequential.{seq, main_ran, apply, resolved, join_outcome, Task, Main, Calls, Waits, Prints, sequential, settles}
+use Rattle.flow_meaning.specs.Sequential.{seq, main_ran, resolved, Task, Calls, sequential, settles}
 use Rattle.flow_meaning.specs.Evaluations.{evaluation, evaluation_in, no_losses}
-use Rattle.meaning_examples.proofs.TreeFolds.{tree_folds}
 use Rattle.meaning_examples.proofs.ValueFolds.{value_folds}
-use Rattle.meaning_examples.proofs.Performed.{asking, main-performed, let-performed, failed-performed, value-performed, end-performed}
-use Rattle.meaning_examples.proofs.Trees.{variable, number, text, list, call, let_call, call_to, built_in, block, plain_app}
+use Rattle.meaning_examples.proofs.Performed.{asking, main-performed, let-performed, end-performed}
+use Rattle.meaning_examples.proofs.Trees.{variable, number, list, let_call, built_in, block, plain_app}
 use Rattle.meaning_examples.proofs.Apps.{div, add, one-by-zero, two-by-zero, eight-by-two}
 
 -- main { let f = call div(1, 0); let g = call div(8, 2); let h = call add(f, g); let k = call add(f, 1); }
 abbrev pub depends_on_failed : Tree
-depends_on_failed = (div ∷ add ∷ [], block (
-    let_call (codes "f") (codes "div") (number 1 ∷ number 0 ∷ []) ∷
-    let_call (codes "g") (codes "div") (number 8 ∷ number 2 ∷ []) ∷
-    let_call (codes "h") (codes "add") (variable (codes "f") ∷ variable (codes "g") ∷ []) ∷
-    let_call (codes "k") (codes "add") (variable (codes "f") ∷ number 1 ∷ []) ∷ []))
+depends_on_failed = (
+  div ∷ add ∷ [],
+  block (
+      let_call (codes "f") (codes "div") (number 1 ∷ number 0 ∷ []) ∷
+      let_call (codes "g") (codes "div") (number 8 ∷ number 2 ∷ []) ∷
+      let_call (codes "h") (codes "add") (variable (codes "f") ∷ variable (codes "g") ∷ []) ∷
+      let_call (codes "k") (codes "add") (variable (codes "f") ∷ number 1 ∷ []) ∷ []),
+)
 
 abbrev pub tasks_depending : List Task
 tasks_depending =
@@ -58,10 +55,13 @@ total = plain_app (codes "total") (codes "vs" ∷ []) (statement.Return (built_i
 
 -- main { let f = call div(1, 0); let g = call div(2, 0); let t = call total([g, f, g]); }
 abbrev pub list_of_failed : Tree
-list_of_failed = (div ∷ total ∷ [], block (
-    let_call (codes "f") (codes "div") (number 1 ∷ number 0 ∷ []) ∷
-    let_call (codes "g") (codes "div") (number 2 ∷ number 0 ∷ []) ∷
-    let_call (codes "t") (codes "total") (list (variable (codes "g") ∷ variable (codes "f") ∷ variable (codes "g") ∷ []) ∷ []) ∷ []))
+list_of_failed = (
+  div ∷ total ∷ [],
+  block (
+      let_call (codes "f") (codes "div") (number 1 ∷ number 0 ∷ []) ∷
+      let_call (codes "g") (codes "div") (number 2 ∷ number 0 ∷ []) ∷
+      let_call (codes "t") (codes "total") (list (variable (codes "g") ∷ variable (codes "f") ∷ variable (codes "g") ∷ []) ∷ []) ∷ []),
+)
 
 abbrev pub tasks_listed : List Task
 tasks_listed =

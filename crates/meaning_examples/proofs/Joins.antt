@@ -1,27 +1,23 @@
 -- Joins that give no value.
-use Rattle.std.proofs.Common.{◌≡◌, ℕ, List, [], ◌∷◌, ◌++◌, refl, ap, ◌∙◌, codes, true, Result, Ok, Err}
-use Rattle.std.specs.Prelude.{pos, Some}
+use Rattle.std.proofs.Common.{◌≡◌, ℕ, List, [], ◌∷◌, ◌++◌, refl, ap, ◌∙◌, codes, true, Ok}
+use Rattle.std.specs.Prelude.{pos}
 use Rattle.std.specs.Fmt.{digits}
 use Rattle.flow_base.specs.declared.value.Value.TheVariants as v
 use Rattle.flow_base.specs.declared.outcome.Exception.TheVariants as x
 use Rattle.flow_base.specs.declared.outcome.Outcome.TheVariants as o
-use Rattle.flow_base.specs.declared.outcome.Ended.TheVariants as ended
 use Rattle.script_tree.specs.declared.tree.Statement.{Statement}
 use Rattle.script_tree.specs.declared.tree.Statement.TheVariants as statement
 use Rattle.script_tree.specs.declared.tree.AppDef.{AppDef}
 use Rattle.script_tree.specs.Grammar.{Tree}
-use Rattle.script_tree.specs.BuiltIns.{built_in_named}
-use Rattle.run_report.specs.Shown.{head_text, shown, exception_text, raised_line}
+use Rattle.run_report.specs.Shown.{head_text, shown, exception_text}
 use Rattle.flow_meaning.specs.Inputs.{inputs, are_deep}
-use Rattle.flow_meaning.specs.Operators.{int_of, text_of, multiplied, added}
-use Rattle.flow_meaning.specs.Told.{result_of}
 use Rattle.flow_meaning.specs.Meaning.{body}
-use Rattle.flow_meaning.specs.Sequential.{seq, main_ran, apply, resolved, join_outcome, Task, Main, Calls, Waits, Prints, sequential, settles}
+use Rattle.flow_meaning.specs.Sequential.{seq, main_ran, resolved, join_outcome, Task, Calls, sequential, settles}
 use Rattle.flow_meaning.specs.Evaluations.{evaluation, evaluation_in, no_losses}
 use Rattle.meaning_examples.proofs.TreeFolds.{tree_folds}
 use Rattle.meaning_examples.proofs.ValueFolds.{value_folds}
-use Rattle.meaning_examples.proofs.Performed.{asking, main-performed, settled, let-performed, failed-performed, value-performed, end-performed}
-use Rattle.meaning_examples.proofs.Trees.{variable, number, text, list, call, let_call, call_to, built_in, block, plain_app}
+use Rattle.meaning_examples.proofs.Performed.{asking, main-performed, settled, let-performed, end-performed}
+use Rattle.meaning_examples.proofs.Trees.{number, call, let_call, block, plain_app}
 use Rattle.meaning_examples.proofs.Apps.{div, one-by-zero, eight-by-two}
 use Rattle.flow_meaning.specs.Sequential.{Ran}
 
@@ -38,10 +34,13 @@ bad = join_app (codes "bad") (statement.Return (call (codes "div") (number 1 ∷
 
 -- main { let f = call div(8, 2); let g = call five(); let h = call bad(); }
 abbrev pub joins : Tree
-joins = (div ∷ five ∷ bad ∷ [], block (
-    let_call (codes "f") (codes "div") (number 8 ∷ number 2 ∷ []) ∷
-    let_call (codes "g") (codes "five") [] ∷
-    let_call (codes "h") (codes "bad") [] ∷ []))
+joins = (
+  div ∷ five ∷ bad ∷ [],
+  block (
+      let_call (codes "f") (codes "div") (number 8 ∷ number 2 ∷ []) ∷
+      let_call (codes "g") (codes "five") [] ∷
+      let_call (codes "h") (codes "bad") [] ∷ []),
+)
 
 abbrev pub divided : Task
 divided = record { path = 1 ∷ []; app = 0; arguments = v.Int (pos 8) ∷ v.Int (pos 2) ∷ []; names = []; inputs = []; outcome = o.Value (v.Int (pos 4)) [] }

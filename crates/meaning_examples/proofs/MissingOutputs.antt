@@ -1,5 +1,5 @@
 -- An app that doesn't write its output.
-use Rattle.std.proofs.Common.{◌≡◌, ℕ, List, [], ◌∷◌, refl, ap, ◌∙◌, codes, true, Result, Ok, Err}
+use Rattle.std.proofs.Common.{◌≡◌, [], ◌∷◌, ap, codes, Ok}
 use Rattle.std.specs.Prelude.{pos, Some}
 use Rattle.std.specs.Fmt.{digits}
 use Rattle.flow_base.specs.declared.value.Value.TheVariants as v
@@ -9,18 +9,16 @@ use Rattle.flow_base.specs.declared.outcome.Ended.TheVariants as ended
 use Rattle.script_tree.specs.declared.tree.Statement.TheVariants as statement
 use Rattle.script_tree.specs.declared.tree.AppDef.{AppDef}
 use Rattle.script_tree.specs.Grammar.{Tree}
-use Rattle.script_tree.specs.BuiltIns.{built_in_named}
-use Rattle.run_report.specs.Shown.{head_text, shown, exception_text, raised_line}
+use Rattle.run_report.specs.Shown.{head_text, shown, exception_text}
 use Rattle.flow_meaning.specs.Inputs.{inputs, are_deep}
-use Rattle.flow_meaning.specs.Operators.{int_of, text_of, multiplied, added}
-use Rattle.flow_meaning.specs.Told.{result_of}
+use Rattle.flow_meaning.specs.Operators.{text_of}
 use Rattle.flow_meaning.specs.Meaning.{body}
-use Rattle.flow_meaning.specs.Sequential.{seq, main_ran, apply, resolved, join_outcome, Task, Main, Calls, Waits, Prints, sequential, settles}
+use Rattle.flow_meaning.specs.Sequential.{seq, main_ran, apply, resolved, Task, Calls, sequential, settles}
 use Rattle.flow_meaning.specs.Evaluations.{evaluation, evaluation_in, no_losses}
 use Rattle.meaning_examples.proofs.TreeFolds.{tree_folds}
 use Rattle.meaning_examples.proofs.ValueFolds.{value_folds}
-use Rattle.meaning_examples.proofs.Performed.{asking, main-performed, let-performed, failed-performed, value-performed, end-performed}
-use Rattle.meaning_examples.proofs.Trees.{variable, number, text, list, call, let_call, call_to, built_in, block, plain_app}
+use Rattle.meaning_examples.proofs.Performed.{asking, main-performed, let-performed, end-performed}
+use Rattle.meaning_examples.proofs.Trees.{variable, number, text, call_to, block, plain_app}
 
 -- app copy(n) outputs 1 { return n; }
 abbrev pub copy : AppDef

@@ -1,35 +1,35 @@
 -- Results that are printed.
-use Rattle.std.proofs.Common.{◌≡◌, ℕ, List, [], ◌∷◌, refl, ap, ◌∙◌, codes, true, Result, Ok, Err}
-use Rattle.std.specs.Prelude.{pos, Some}
+use Rattle.std.proofs.Common.{◌≡◌, List, [], ◌∷◌, refl, ap, ◌∙◌, codes, Ok}
+use Rattle.std.specs.Prelude.{pos}
 use Rattle.std.specs.Fmt.{digits}
 use Rattle.flow_base.specs.declared.value.Value.TheVariants as v
-use Rattle.flow_base.specs.declared.outcome.Exception.TheVariants as x
 use Rattle.flow_base.specs.declared.outcome.Outcome.TheVariants as o
 use Rattle.flow_base.specs.declared.outcome.Ended.TheVariants as ended
 use Rattle.script_tree.specs.declared.tree.Statement.TheVariants as statement
-use Rattle.script_tree.specs.declared.tree.AppDef.{AppDef}
 use Rattle.script_tree.specs.Grammar.{Tree}
 use Rattle.script_tree.specs.BuiltIns.{built_in_named}
-use Rattle.run_report.specs.Shown.{head_text, shown, exception_text, raised_line}
+use Rattle.run_report.specs.Shown.{head_text, shown}
 use Rattle.flow_meaning.specs.Inputs.{inputs, are_deep}
-use Rattle.flow_meaning.specs.Operators.{int_of, text_of, multiplied, added}
-use Rattle.flow_meaning.specs.Told.{result_of}
+use Rattle.flow_meaning.specs.Operators.{added}
 use Rattle.flow_meaning.specs.Meaning.{body}
-use Rattle.flow_meaning.specs.Sequential.{MainAct, seq, main_ran, apply, resolved, join_outcome, Task, Main, Calls, Waits, Prints, sequential, settles}
+use Rattle.flow_meaning.specs.Sequential.{MainAct, seq, main_ran, apply, resolved, Task, Calls, Waits, Prints, sequential, settles}
 use Rattle.flow_meaning.specs.Evaluations.{evaluation, evaluation_in, no_losses}
 use Rattle.meaning_examples.proofs.TreeFolds.{tree_folds}
 use Rattle.meaning_examples.proofs.ValueFolds.{value_folds}
-use Rattle.meaning_examples.proofs.Performed.{asking, main-performed, let-performed, failed-performed, value-performed, end-performed}
-use Rattle.meaning_examples.proofs.Trees.{variable, number, text, list, call, let_call, call_to, built_in, block, plain_app}
+use Rattle.meaning_examples.proofs.Performed.{asking, main-performed, let-performed, value-performed, end-performed}
+use Rattle.meaning_examples.proofs.Trees.{variable, number, let_call, built_in, block}
 use Rattle.meaning_examples.proofs.Apps.{add}
 
 -- main { let f = call add(2, 3); let g = call add(f, 4); print result(g); print result(f); }
 abbrev pub prints_sums : Tree
-prints_sums = (add ∷ [], block (
-    let_call (codes "f") (codes "add") (number 2 ∷ number 3 ∷ []) ∷
-    let_call (codes "g") (codes "add") (variable (codes "f") ∷ number 4 ∷ []) ∷
-    statement.Print (built_in (codes "result") (variable (codes "g") ∷ [])) ∷
-    statement.Print (built_in (codes "result") (variable (codes "f") ∷ [])) ∷ []))
+prints_sums = (
+  add ∷ [],
+  block (
+      let_call (codes "f") (codes "add") (number 2 ∷ number 3 ∷ []) ∷
+      let_call (codes "g") (codes "add") (variable (codes "f") ∷ number 4 ∷ []) ∷
+      statement.Print (built_in (codes "result") (variable (codes "g") ∷ [])) ∷
+      statement.Print (built_in (codes "result") (variable (codes "f") ∷ [])) ∷ []),
+)
 
 two-three : apply add (v.Int (pos 2) ∷ v.Int (pos 3) ∷ []) [] ≡ ended.Value (v.Int (pos 5)) []
 unfolding apply body added

@@ -1,34 +1,31 @@
 -- A main that raises.
-use Rattle.std.proofs.Common.{◌≡◌, ℕ, List, [], ◌∷◌, refl, ap, ◌∙◌, codes, true, Result, Ok, Err}
-use Rattle.std.specs.Prelude.{pos, Some}
+use Rattle.std.proofs.Common.{◌≡◌, [], ◌∷◌, refl, ap, codes, Err}
+use Rattle.std.specs.Prelude.{pos}
 use Rattle.std.specs.Fmt.{digits}
 use Rattle.flow_base.specs.declared.value.Value.TheVariants as v
 use Rattle.flow_base.specs.declared.outcome.Exception.TheVariants as x
 use Rattle.flow_base.specs.declared.outcome.Outcome.TheVariants as o
-use Rattle.flow_base.specs.declared.outcome.Ended.TheVariants as ended
 use Rattle.script_tree.specs.declared.tree.Statement.TheVariants as statement
-use Rattle.script_tree.specs.declared.tree.AppDef.{AppDef}
 use Rattle.script_tree.specs.Grammar.{Tree}
 use Rattle.script_tree.specs.BuiltIns.{built_in_named}
 use Rattle.run_report.specs.Shown.{head_text, shown, exception_text, raised_line}
 use Rattle.flow_meaning.specs.Inputs.{inputs, are_deep}
-use Rattle.flow_meaning.specs.Operators.{int_of, text_of, multiplied, added}
-use Rattle.flow_meaning.specs.Told.{result_of}
-use Rattle.flow_meaning.specs.Meaning.{body}
-use Rattle.flow_meaning.specs.Sequential.{seq, main_ran, apply, resolved, join_outcome, Task, Main, Calls, Waits, Prints, sequential, settles}
+use Rattle.flow_meaning.specs.Sequential.{seq, main_ran, resolved, Task, Calls, Waits, sequential, settles}
 use Rattle.flow_meaning.specs.Evaluations.{evaluation, evaluation_in, no_losses}
-use Rattle.meaning_examples.proofs.TreeFolds.{tree_folds}
 use Rattle.meaning_examples.proofs.ValueFolds.{value_folds}
-use Rattle.meaning_examples.proofs.Performed.{asking, main-performed, let-performed, failed-performed, value-performed, end-performed}
-use Rattle.meaning_examples.proofs.Trees.{variable, number, text, list, call, let_call, call_to, built_in, block, plain_app}
+use Rattle.meaning_examples.proofs.Performed.{asking, main-performed, let-performed, failed-performed}
+use Rattle.meaning_examples.proofs.Trees.{variable, number, let_call, built_in, block}
 use Rattle.meaning_examples.proofs.Apps.{div, one-by-zero}
 
 -- main { let f = call div(1, 0); print result(f); let g = call div(8, 2); }
 abbrev pub prints_failed : Tree
-prints_failed = (div ∷ [], block (
-    let_call (codes "f") (codes "div") (number 1 ∷ number 0 ∷ []) ∷
-    statement.Print (built_in (codes "result") (variable (codes "f") ∷ [])) ∷
-    let_call (codes "g") (codes "div") (number 8 ∷ number 2 ∷ []) ∷ []))
+prints_failed = (
+  div ∷ [],
+  block (
+      let_call (codes "f") (codes "div") (number 1 ∷ number 0 ∷ []) ∷
+      statement.Print (built_in (codes "result") (variable (codes "f") ∷ [])) ∷
+      let_call (codes "g") (codes "div") (number 8 ∷ number 2 ∷ []) ∷ []),
+)
 
 abbrev pub failed : Task
 failed = record { path = 1 ∷ []; app = 0; arguments = v.Int (pos 1) ∷ v.Int (pos 0) ∷ []; names = []; inputs = []; outcome = o.Failed x.ZeroDivisionError }

@@ -1,5 +1,5 @@
 -- The faults of two mains.
-use Rattle.std.proofs.Common.{◌≡◌, ℕ, List, [], ◌∷◌, refl, codes}
+use Rattle.std.proofs.Common.{◌≡◌, ℕ, List, [], ◌∷◌, codes}
 use Rattle.script_tree.specs.declared.tree.Statement.TheVariants as statement
 use Rattle.script_tree.specs.Grammar.{Tree}
 use Rattle.script_tree.specs.Rules.{faults}

@@ -1,5 +1,5 @@
 -- What a fold over a tree makes of its parts.
-use Rattle.std.proofs.Common.{◌≡◌, ℕ, List, [], ◌∷◌, map, refl, ap, ◌∙◌, sym, Option, Some, None}
+use Rattle.std.proofs.Common.{◌≡◌, ℕ, List, map, ap, ◌∙◌, sym, Option, None}
 use Rattle.std.specs.Prelude.{ℤ}
 use Rattle.script_tree.specs.declared.tree.SumOp.{SumOp}
 use Rattle.script_tree.specs.declared.tree.TermOp.{TermOp}
@@ -17,7 +17,7 @@ use Rattle.script_tree.specs.declared.tree.Post.{Post, roll-Post, fold-roll-Post
 use Rattle.script_tree.specs.declared.tree.Sum.{Sum, roll-Sum, fold-roll-Sum}
 use Rattle.script_tree.specs.declared.tree.Term.{Term, roll-Term, fold-roll-Term}
 use Rattle.script_tree.specs.declared.tree.Unary.{Unary, roll-Unary, fold-roll-Unary}
-use Rattle.script_tree.specs.declared.tree.Block.{Block, roll-Block, fold-roll-Block}
+use Rattle.script_tree.specs.declared.tree.Block.{roll-Block, fold-roll-Block}
 use Rattle.script_tree.specs.declared.tree.Statement.{Statement, fold-roll-Statement}
 use Rattle.script_tree.specs.declared.tree.Statement.TheVariants as statement
 use Rattle.script_tree.specs.declared.tree.Statement.TheOpen.{Statement-F}

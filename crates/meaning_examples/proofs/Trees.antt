@@ -1,6 +1,6 @@
 -- The trees of small pieces of scripts.
-use Rattle.std.proofs.Common.{ℕ, List, [], ◌∷◌, map, Option, Some, None, false}
-use Rattle.std.specs.Prelude.{ℤ, pos}
+use Rattle.std.proofs.Common.{ℕ, List, [], ◌∷◌, None, false}
+use Rattle.std.specs.Prelude.{pos}
 use Rattle.script_tree.specs.declared.tree.SumOp.TheVariants.{Plus}
 use Rattle.script_tree.specs.declared.tree.TermOp.{TermOp}
 use Rattle.script_tree.specs.declared.tree.TermOp.TheVariants.{Times, Over}
@@ -8,9 +8,9 @@ use Rattle.script_tree.specs.declared.tree.Atom.{Atom}
 use Rattle.script_tree.specs.declared.tree.Atom.TheVariants as atom
 use Rattle.script_tree.specs.declared.tree.Post.{roll-Post}
 use Rattle.script_tree.specs.declared.tree.Unary.{Unary, roll-Unary}
-use Rattle.script_tree.specs.declared.tree.Term.{Term, roll-Term}
+use Rattle.script_tree.specs.declared.tree.Term.{roll-Term}
 use Rattle.script_tree.specs.declared.tree.Factor.{roll-Factor}
-use Rattle.script_tree.specs.declared.tree.Sum.{Sum, roll-Sum}
+use Rattle.script_tree.specs.declared.tree.Sum.{roll-Sum}
 use Rattle.script_tree.specs.declared.tree.Added.{roll-Added}
 use Rattle.script_tree.specs.declared.tree.Expr.{Expr}
 use Rattle.script_tree.specs.declared.tree.CallExpr.{CallExpr, roll-CallExpr}

@@ -1,7 +1,7 @@
 -- What the folds over values make of each value.
-use Rattle.std.proofs.Common.{◌≡◌, ℕ, List, [], ◌∷◌, map, refl, ap, ◌∙◌, sym, Bool, true, false}
+use Rattle.std.proofs.Common.{◌≡◌, ℕ, List, map, ap, ◌∙◌, sym}
 use Rattle.std.specs.Prelude.{ℤ}
-use Rattle.flow_base.specs.declared.value.Value.{Value, roll-Value, out-Value, out-roll-Value, fold-Value, fold-roll-Value}
+use Rattle.flow_base.specs.declared.value.Value.{Value, out-Value, out-roll-Value, fold-roll-Value}
 use Rattle.flow_base.specs.declared.value.Value.TheOpen.{Value-F}
 use Rattle.flow_base.specs.declared.value.Value.TheVariants as v
 use Rattle.flow_base.specs.Values.{units, units_step, levels, levels_step, is_plain, plain_step}

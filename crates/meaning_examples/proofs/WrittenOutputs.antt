@@ -1,27 +1,25 @@
 -- An app that writes its output.
-use Rattle.std.proofs.Common.{◌≡◌, ℕ, List, [], ◌∷◌, refl, ap, ◌∙◌, codes, true, Result, Ok, Err}
+use Rattle.std.proofs.Common.{◌≡◌, List, [], ◌∷◌, ap, ◌∙◌, codes, Ok}
 use Rattle.std.specs.Prelude.{pos, Some}
 use Rattle.std.specs.Fmt.{digits}
 use Rattle.flow_base.specs.declared.value.Value.TheVariants as v
 use Rattle.flow_base.specs.declared.outcome.FileOut.{FileOut}
-use Rattle.flow_base.specs.declared.outcome.Exception.TheVariants as x
 use Rattle.flow_base.specs.declared.outcome.Outcome.TheVariants as o
 use Rattle.flow_base.specs.declared.outcome.Ended.TheVariants as ended
 use Rattle.script_tree.specs.declared.tree.Statement.TheVariants as statement
 use Rattle.script_tree.specs.declared.tree.AppDef.{AppDef}
 use Rattle.script_tree.specs.Grammar.{Tree}
 use Rattle.script_tree.specs.BuiltIns.{built_in_named}
-use Rattle.run_report.specs.Shown.{head_text, shown, exception_text, raised_line}
+use Rattle.run_report.specs.Shown.{head_text, shown}
 use Rattle.flow_meaning.specs.Inputs.{inputs, are_deep}
-use Rattle.flow_meaning.specs.Operators.{int_of, text_of, multiplied, added}
-use Rattle.flow_meaning.specs.Told.{result_of}
+use Rattle.flow_meaning.specs.Operators.{int_of, text_of}
 use Rattle.flow_meaning.specs.Meaning.{body}
-use Rattle.flow_meaning.specs.Sequential.{seq, main_ran, apply, resolved, join_outcome, Task, Main, Calls, Waits, Prints, sequential, settles}
+use Rattle.flow_meaning.specs.Sequential.{seq, main_ran, apply, resolved, Task, Calls, sequential, settles}
 use Rattle.flow_meaning.specs.Evaluations.{evaluation, evaluation_in, no_losses}
 use Rattle.meaning_examples.proofs.TreeFolds.{tree_folds}
 use Rattle.meaning_examples.proofs.ValueFolds.{value_folds}
-use Rattle.meaning_examples.proofs.Performed.{asking, main-performed, let-performed, failed-performed, value-performed, end-performed}
-use Rattle.meaning_examples.proofs.Trees.{variable, number, text, list, call, let_call, call_to, built_in, block, plain_app}
+use Rattle.meaning_examples.proofs.Performed.{asking, main-performed, let-performed, end-performed}
+use Rattle.meaning_examples.proofs.Trees.{variable, number, text, let_call, call_to, built_in, block, plain_app}
 
 -- app save(text) outputs 1 { write 0, text; return len(text); }
 abbrev pub save : AppDef
@@ -44,9 +42,12 @@ same-hello = simp (tree_folds, value_folds)
 
 -- main { let f = call save("hello") to ("a.txt"); let g = call same(output(f, 0)); }
 abbrev pub written : Tree
-written = (save ∷ same ∷ [], block (
-    statement.Let (codes "f") (call_to (codes "save") (text (codes "hello") ∷ []) (text (codes "a.txt") ∷ [])) ∷
-    let_call (codes "g") (codes "same") (built_in (codes "output") (variable (codes "f") ∷ number 0 ∷ []) ∷ []) ∷ []))
+written = (
+  save ∷ same ∷ [],
+  block (
+      statement.Let (codes "f") (call_to (codes "save") (text (codes "hello") ∷ []) (text (codes "a.txt") ∷ [])) ∷
+      let_call (codes "g") (codes "same") (built_in (codes "output") (variable (codes "f") ∷ number 0 ∷ []) ∷ []) ∷ []),
+)
 
 abbrev pub tasks : List Task
 tasks =
