@@ -12,14 +12,13 @@ use Rattle.script_tree.specs.Grammar.{Tree}
 use Rattle.run_report.specs.Shown.{head_text, shown, exception_text}
 use Rattle.flow_meaning.specs.Inputs.{inputs, are_deep}
 use Rattle.flow_meaning.specs.Meaning.{body}
-use Rattle.flow_meaning.specs.Sequential.{seq, main_ran, resolved, join_outcome, Task, Calls, sequential, settles}
+use Rattle.flow_meaning.specs.Sequential.{seq, main_ran, resolved, join_outcome, Ran, Task, Calls, sequential, settles}
 use Rattle.flow_meaning.specs.Evaluations.{evaluation, evaluation_in, no_losses}
 use Rattle.meaning_examples.proofs.TreeFolds.{tree_folds}
 use Rattle.meaning_examples.proofs.ValueFolds.{value_folds}
 use Rattle.meaning_examples.proofs.Performed.{asking, main-performed, settled, let-performed, end-performed}
 use Rattle.meaning_examples.proofs.Trees.{number, call, let_call, block, plain_app}
 use Rattle.meaning_examples.proofs.Apps.{div, one-by-zero, eight-by-two}
-use Rattle.flow_meaning.specs.Sequential.{Ran}
 
 abbrev pub join_app : List ℕ → List Statement → AppDef
 join_app name statements = record (plain_app name [] statements) { join = true }

@@ -12,3 +12,4 @@ pub mod RaisedMain
 pub mod MissingOutputs
 pub mod PrintedResults
 pub mod WrittenOutputs
+pub mod Spellings

@@ -8,11 +8,10 @@ use Rattle.flow_base.specs.declared.outcome.Exception.{Exception}
 use Rattle.flow_meaning.specs.declared.walk.Request.{Request}
 use Rattle.flow_meaning.specs.declared.walk.Answer.{Answer}
 use Rattle.flow_meaning.specs.Act.{Act, Give, Throw, Ask, ◌>>=◌}
-use Rattle.flow_meaning.specs.Operators.{Text}
+use Rattle.flow_meaning.specs.Operators.{Layer, Text}
 use Rattle.flow_meaning.specs.Inputs.{Path, path_in, inputs}
 use Rattle.flow_meaning.specs.declared.walk.Request.TheVariants as request
 use Rattle.flow_meaning.specs.Told.{called_value, result_of, awaits, awaited_value, told_value}
-use Rattle.flow_meaning.specs.Operators.{Layer}
 use Rattle.flow_base.specs.declared.value.Value.TheOpen.{Value-F}
 use Rattle.flow_base.specs.declared.outcome.FileOut.{FileOut}
 use Rattle.flow_base.specs.declared.outcome.Outcome.{Outcome}
@@ -25,7 +24,7 @@ use Rattle.script_tree.specs.declared.tree.Statement.TheVariants as statement
 use Rattle.flow_meaning.specs.Meaning.{Vars, value_of, put, sets, State, Flow, Goes, Returns, Done, doing, sequence, and_then, done, body, max_turns}
 use Rattle.flow_meaning.specs.Sequential.{Rule, Ran, Task, Calls, Waits, Prints, Main, acted, waits, outcome_at, outcome_answer, perform, main_answer, rule, main_ran, app_names, at_start}
 use Rattle.flow_meaning.specs.Evaluations.{no_losses}
-use Rattle.meaning_examples.proofs.TreeFolds.{block-used, let-used, print-used, tree_folds}
+use Rattle.meaning_examples.proofs.TreeFolds.{block-applied, let-applied, print-applied, tree_folds}
 
 abbrev pub Answers : Type 0 → Type 0
 Answers S = Request → S → Answer × S
@@ -83,7 +82,7 @@ module _ (apps : List AppDef) where
   unfolding main_ran body main_from
   main-performed ss end rest =
       let s : State = record { vars = []; written = []; left = max_turns } in
-      ap (λ act. perform (main_answer settled) (act >>= done []) at_start) (block-used (doing names_in []) ss s)
+      ap (λ act. perform (main_answer settled) (act >>= done []) at_start) (block-applied (doing names_in []) ss s)
       ∙ (statements-performed (main_answer settled) names_in [] ss s at_start ∙ rest)
 
   -- a call of main that waits for these paths, with its outcome and the tasks below it
@@ -97,7 +96,7 @@ module _ (apps : List AppDef) where
       → perform (main_answer settled) (fold_statement (doing names_in []) (statement.Let name e) s) m
       ≡ (Ok (Goes (record s { vars = put s.vars name (v.Future (suc m.made.calls ∷ []) (length names)) })), with_call m app arguments names (inputs arguments) (settled (suc m.made.calls ∷ []) app arguments names m.made.tasks))
   call-performed name e s m app arguments names asks =
-      ap (λ act. perform (main_answer settled) act m) (let-used (doing names_in []) name e s ∙ ap (λ (act : Act Value). act >>= (λ value. sets name value s)) asks)
+      ap (λ act. perform (main_answer settled) act m) (let-applied (doing names_in []) name e s ∙ ap (λ (act : Act Value). act >>= (λ value. sets name value s)) asks)
 
   -- a call whose future is named, with the paths that it waits for and what the rule gives it
   pub let-performed : (name : Text) (e : Expr) (ss : List Statement) (vars : Vars) (m : Main) (end : Result Done Exception × Main)
@@ -126,7 +125,7 @@ module _ (apps : List AppDef) where
   unfolding result_of
   print-performed e ss vars m path outputs outcome asks has =
       let behind : Answer × Main → Layer → Result Flow Exception × Main = λ r layer. printing r.1 vars (awaited_value layer r.0) in
-      ap (λ act. perform (main_answer settled) act m) (print-used (doing names_in []) e (record { vars = vars; written = []; left = max_turns }))
+      ap (λ act. perform (main_answer settled) act m) (print-applied (doing names_in []) e (record { vars = vars; written = []; left = max_turns }))
       ∙ (ap (printing m vars) asks
       ∙ (ap (λ layer. printing m vars (awaits layer (Ask (request.WaitValue (v.Future path outputs)) (awaited_value layer)))) (out-future path outputs)
       ∙ (ap (λ (layer : Layer). behind (waits m (path_in layer)) (Value-F.Future path outputs)) (out-future path outputs)

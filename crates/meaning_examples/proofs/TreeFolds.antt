@@ -117,65 +117,65 @@ module _ {D : Type 0} (s : BlockSteps D) where
 
 -- where the class is a function, what it gives of an argument
 module _ {V R : Type 0} (s : Steps (V → R)) where
-  pub post-used : (x : Atom) (es : List Expr) (v : V) → fold_post s (roll-Post (record { atom = x; indices = es })) v ≡ s.post (record { atom = fold_atom s x; indices = map (fold_expr s) es }) v
-  post-used x es v = ap (λ f. f v) (post-folded s x es)
+  pub post-applied : (x : Atom) (es : List Expr) (v : V) → fold_post s (roll-Post (record { atom = x; indices = es })) v ≡ s.post (record { atom = fold_atom s x; indices = map (fold_expr s) es }) v
+  post-applied x es v = ap (λ f. f v) (post-folded s x es)
 
-  pub unary-used : (op : Option UnaryOp) (x : Post) (v : V) → fold_unary s (roll-Unary (record { op = op; post = x })) v ≡ s.unary (record { op = op; post = fold_post s x }) v
-  unary-used op x v = ap (λ f. f v) (unary-folded s op x)
+  pub unary-applied : (op : Option UnaryOp) (x : Post) (v : V) → fold_unary s (roll-Unary (record { op = op; post = x })) v ≡ s.unary (record { op = op; post = fold_post s x }) v
+  unary-applied op x v = ap (λ f. f v) (unary-folded s op x)
 
-  pub term-used : (x : Unary) (xs : List Factor) (v : V) → fold_term s (roll-Term (record { first = x; others = xs })) v ≡ s.term (record { first = fold_unary s x; others = map (fold_factor s) xs }) v
-  term-used x xs v = ap (λ f. f v) (term-folded s x xs)
+  pub term-applied : (x : Unary) (xs : List Factor) (v : V) → fold_term s (roll-Term (record { first = x; others = xs })) v ≡ s.term (record { first = fold_unary s x; others = map (fold_factor s) xs }) v
+  term-applied x xs v = ap (λ f. f v) (term-folded s x xs)
 
-  pub sum-used : (x : Term) (xs : List Added) (v : V) → fold_sum s (roll-Sum (record { first = x; others = xs })) v ≡ s.sum (record { first = fold_term s x; others = map (fold_added s) xs }) v
-  sum-used x xs v = ap (λ f. f v) (sum-folded s x xs)
+  pub sum-applied : (x : Term) (xs : List Added) (v : V) → fold_sum s (roll-Sum (record { first = x; others = xs })) v ≡ s.sum (record { first = fold_term s x; others = map (fold_added s) xs }) v
+  sum-applied x xs v = ap (λ f. f v) (sum-folded s x xs)
 
-  pub comp-used : (x : Sum) (v : V) → fold_comp s (roll-Comp (record { left = x; test = None })) v ≡ s.comp (record { left = fold_sum s x; test = None }) v
-  comp-used x v = ap (λ f. f v) (comp-folded s x)
+  pub comp-applied : (x : Sum) (v : V) → fold_comp s (roll-Comp (record { left = x; test = None })) v ≡ s.comp (record { left = fold_sum s x; test = None }) v
+  comp-applied x v = ap (λ f. f v) (comp-folded s x)
 
-  pub conj-used : (x : Comp) (xs : List Comp) (v : V) → fold_conj s (roll-Conj (record { first = x; others = xs })) v ≡ s.conj (record { first = fold_comp s x; others = map (fold_comp s) xs }) v
-  conj-used x xs v = ap (λ f. f v) (conj-folded s x xs)
+  pub conj-applied : (x : Comp) (xs : List Comp) (v : V) → fold_conj s (roll-Conj (record { first = x; others = xs })) v ≡ s.conj (record { first = fold_comp s x; others = map (fold_comp s) xs }) v
+  conj-applied x xs v = ap (λ f. f v) (conj-folded s x xs)
 
-  pub expr-used : (x : Conj) (xs : List Conj) (v : V) → fold_expr s (roll-Expr (record { first = x; others = xs })) v ≡ s.expr (record { first = fold_conj s x; others = map (fold_conj s) xs }) v
-  expr-used x xs v = ap (λ f. f v) (expr-folded s x xs)
+  pub expr-applied : (x : Conj) (xs : List Conj) (v : V) → fold_expr s (roll-Expr (record { first = x; others = xs })) v ≡ s.expr (record { first = fold_conj s x; others = map (fold_conj s) xs }) v
+  expr-applied x xs v = ap (λ f. f v) (expr-folded s x xs)
 
-  pub call-used : (app : List ℕ) (es ns : List Expr) (v : V) → fold_call s (roll-CallExpr (record { app = app; arguments = es; names = ns })) v ≡ s.call (record { app = app; arguments = map (fold_expr s) es; names = map (fold_expr s) ns }) v
-  call-used app es ns v = ap (λ f. f v) (call-folded s app es ns)
+  pub call-applied : (app : List ℕ) (es ns : List Expr) (v : V) → fold_call s (roll-CallExpr (record { app = app; arguments = es; names = ns })) v ≡ s.call (record { app = app; arguments = map (fold_expr s) es; names = map (fold_expr s) ns }) v
+  call-applied app es ns v = ap (λ f. f v) (call-folded s app es ns)
 
-  pub number-used : (n : ℤ) (v : V) → fold_atom s (a.Number n) v ≡ s.atom (Atom-F.Number n) v
-  number-used n v = ap (λ f. f v) (number-folded s n)
+  pub number-applied : (n : ℤ) (v : V) → fold_atom s (a.Number n) v ≡ s.atom (Atom-F.Number n) v
+  number-applied n v = ap (λ f. f v) (number-folded s n)
 
-  pub text-used : (text : List ℕ) (v : V) → fold_atom s (a.Text text) v ≡ s.atom (Atom-F.Text text) v
-  text-used text v = ap (λ f. f v) (text-folded s text)
+  pub text-applied : (text : List ℕ) (v : V) → fold_atom s (a.Text text) v ≡ s.atom (Atom-F.Text text) v
+  text-applied text v = ap (λ f. f v) (text-folded s text)
 
-  pub variable-used : (name : List ℕ) (v : V) → fold_atom s (a.Variable name) v ≡ s.atom (Atom-F.Variable name) v
-  variable-used name v = ap (λ f. f v) (variable-folded s name)
+  pub variable-applied : (name : List ℕ) (v : V) → fold_atom s (a.Variable name) v ≡ s.atom (Atom-F.Variable name) v
+  variable-applied name v = ap (λ f. f v) (variable-folded s name)
 
-  pub built_in-used : (name : List ℕ) (es : List Expr) (v : V) → fold_atom s (a.BuiltIn name es) v ≡ s.atom (Atom-F.BuiltIn name (map (fold_expr s) es)) v
-  built_in-used name es v = ap (λ f. f v) (built_in-folded s name es)
+  pub built_in-applied : (name : List ℕ) (es : List Expr) (v : V) → fold_atom s (a.BuiltIn name es) v ≡ s.atom (Atom-F.BuiltIn name (map (fold_expr s) es)) v
+  built_in-applied name es v = ap (λ f. f v) (built_in-folded s name es)
 
-  pub call_atom-used : (call : CallExpr) (v : V) → fold_atom s (a.Call call) v ≡ s.atom (Atom-F.Call (fold_call s call)) v
-  call_atom-used call v = ap (λ f. f v) (call_atom-folded s call)
+  pub call_atom-applied : (call : CallExpr) (v : V) → fold_atom s (a.Call call) v ≡ s.atom (Atom-F.Call (fold_call s call)) v
+  call_atom-applied call v = ap (λ f. f v) (call_atom-folded s call)
 
-  pub list-used : (es : List Expr) (v : V) → fold_atom s (a.List es) v ≡ s.atom (Atom-F.List (map (fold_expr s) es)) v
-  list-used es v = ap (λ f. f v) (list-folded s es)
+  pub list-applied : (es : List Expr) (v : V) → fold_atom s (a.List es) v ≡ s.atom (Atom-F.List (map (fold_expr s) es)) v
+  list-applied es v = ap (λ f. f v) (list-folded s es)
 
 module _ {V R : Type 0} (s : BlockSteps (V → R)) where
-  pub block-used : (xs : List Statement) (v : V) → fold_block s (roll-Block (record { statements = xs })) v ≡ s.block (record { statements = map (fold_statement s) xs }) v
-  block-used xs v = ap (λ f. f v) (block-folded s xs)
+  pub block-applied : (xs : List Statement) (v : V) → fold_block s (roll-Block (record { statements = xs })) v ≡ s.block (record { statements = map (fold_statement s) xs }) v
+  block-applied xs v = ap (λ f. f v) (block-folded s xs)
 
-  pub let-used : (name : List ℕ) (e : Expr) (v : V) → fold_statement s (statement.Let name e) v ≡ s.statement (Statement-F.Let name e) v
-  let-used name e v = ap (λ f. f v) (let-folded s name e)
+  pub let-applied : (name : List ℕ) (e : Expr) (v : V) → fold_statement s (statement.Let name e) v ≡ s.statement (Statement-F.Let name e) v
+  let-applied name e v = ap (λ f. f v) (let-folded s name e)
 
-  pub return-used : (e : Expr) (v : V) → fold_statement s (statement.Return e) v ≡ s.statement (Statement-F.Return e) v
-  return-used e v = ap (λ f. f v) (return-folded s e)
+  pub return-applied : (e : Expr) (v : V) → fold_statement s (statement.Return e) v ≡ s.statement (Statement-F.Return e) v
+  return-applied e v = ap (λ f. f v) (return-folded s e)
 
-  pub print-used : (e : Expr) (v : V) → fold_statement s (statement.Print e) v ≡ s.statement (Statement-F.Print e) v
-  print-used e v = ap (λ f. f v) (print-folded s e)
+  pub print-applied : (e : Expr) (v : V) → fold_statement s (statement.Print e) v ≡ s.statement (Statement-F.Print e) v
+  print-applied e v = ap (λ f. f v) (print-folded s e)
 
-  pub write-used : (e : Expr) (text : Expr) (v : V) → fold_statement s (statement.Write e text) v ≡ s.statement (Statement-F.Write e text) v
-  write-used e text v = ap (λ f. f v) (write-folded s e text)
+  pub write-applied : (e : Expr) (text : Expr) (v : V) → fold_statement s (statement.Write e text) v ≡ s.statement (Statement-F.Write e text) v
+  write-applied e text v = ap (λ f. f v) (write-folded s e text)
 
-  pub call_statement-used : (call : CallExpr) (v : V) → fold_statement s (statement.Call call) v ≡ s.statement (Statement-F.Call call) v
-  call_statement-used call v = ap (λ f. f v) (call_statement-folded s call)
+  pub call_statement-applied : (call : CallExpr) (v : V) → fold_statement s (statement.Call call) v ≡ s.statement (Statement-F.Call call) v
+  call_statement-applied call v = ap (λ f. f v) (call_statement-folded s call)
 
-pub ruleset tree_folds = (block-used, let-used, return-used, print-used, write-used, call_statement-used, post-used, unary-used, term-used, sum-used, comp-used, conj-used, expr-used, call-used, number-used, text-used, variable-used, built_in-used, call_atom-used, list-used, post-folded, unary-folded, term-folded, factor-folded, added-folded, sum-folded, comp-folded, conj-folded, expr-folded, call-folded, number-folded, text-folded, variable-folded, built_in-folded, call_atom-folded, list-folded, block-folded, let-folded, return-folded, print-folded, write-folded, call_statement-folded)
+pub ruleset tree_folds = (block-applied, let-applied, return-applied, print-applied, write-applied, call_statement-applied, post-applied, unary-applied, term-applied, sum-applied, comp-applied, conj-applied, expr-applied, call-applied, number-applied, text-applied, variable-applied, built_in-applied, call_atom-applied, list-applied, post-folded, unary-folded, term-folded, factor-folded, added-folded, sum-folded, comp-folded, conj-folded, expr-folded, call-folded, number-folded, text-folded, variable-folded, built_in-folded, call_atom-folded, list-folded, block-folded, let-folded, return-folded, print-folded, write-folded, call_statement-folded)

@@ -140,6 +140,4 @@ pub shown-nothing : shown v.Nothing ≡ shown_step Value-F.Nothing
 unfolding shown
 shown-nothing = ap shown (sym v.rolls-Nothing) ∙ fold-roll-Value _ _ _
 
-pub ruleset values_open = (out-int, out-text, out-list, out-file, out-future, out-output, out-nothing)
-
 pub ruleset value_folds = (out-int, out-text, out-list, out-file, out-future, out-output, out-nothing, units-int, units-text, units-list, units-file, units-future, units-output, units-nothing, levels-int, levels-text, levels-list, levels-file, levels-future, levels-output, levels-nothing, is_plain-int, is_plain-text, is_plain-list, is_plain-file, is_plain-future, is_plain-output, is_plain-nothing, shown-int, shown-text, shown-list, shown-file, shown-future, shown-output, shown-nothing)
