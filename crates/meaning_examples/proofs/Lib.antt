@@ -1,0 +1,15 @@
+pub mod TreeFolds
+pub mod Trees
+pub mod CanonicalTexts
+pub mod StaticRules
+pub mod ValueFolds
+pub mod ShownValues
+pub mod Apps
+pub mod Performed
+pub mod FailedInputs
+pub mod Joins
+pub mod RaisedMain
+pub mod MissingOutputs
+pub mod PrintedResults
+pub mod WrittenOutputs
+pub mod Spellings

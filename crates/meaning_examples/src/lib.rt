@@ -1,0 +1,2 @@
+//! Worked examples of scripts, computed from the definitions of their text, rules and meaning.
+#![tactic(auto)]
