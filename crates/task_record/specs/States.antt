@@ -1,5 +1,5 @@
--- The words for the states of a task.
-use Rattle.std.specs.Prelude.{ℕ, List, codes}
+-- The words for the states of a task, and those in which it is settled.
+use Rattle.std.specs.Prelude.{ℕ, List, Bool, true, false, codes}
 use Rattle.task_record.specs.declared.status.Status.{Status}
 use Rattle.task_record.specs.declared.status.Status.TheVariants as status
 
@@ -15,3 +15,10 @@ status_name status.MemoDone = codes "memo_done"
 status_name status.Failed = codes "failed"
 status_name status.DepFail = codes "dep_fail"
 status_name status.FailRetryable = codes "fail_retryable"
+
+abbrev pub is_settled : Status → Bool
+is_settled status.ExecDone = true
+is_settled status.MemoDone = true
+is_settled status.Failed = true
+is_settled status.DepFail = true
+is_settled _ = false

@@ -1,6 +1,7 @@
 //! The records of tasks.
 
 ghost use Rattle.std.specs.Prelude.{◌≡◌, ◌+◌, ◌^◌, ◌<◌, IsTrue};
+ghost use Rattle.task_record.specs.States.{is_settled};
 ghost use Rattle.task_record.specs.Transitions.{may_become};
 
 use crate::status::Status;
@@ -118,7 +119,8 @@ impl TaskRecord {
 
     /// It is settled in this state.
     pub fn finish(&mut self, status: Status)
-        requires { IsTrue (may_become self.old.status status) }
+        requires settled { IsTrue (is_settled status) }
+        requires transition { IsTrue (may_become self.old.status status) }
         ensures { self.new ≡ record self.old { status = status } }
     {
         self.status = status;

@@ -1,7 +1,7 @@
 //! The states of a task.
 
 ghost use Rattle.std.specs.Prelude.{◌≡◌};
-ghost use Rattle.task_record.specs.States.{status_name};
+ghost use Rattle.task_record.specs.States.{status_name, is_settled};
 ghost use Rattle.task_record.specs.Transitions.{may_become};
 
 /// The state of a task.
@@ -49,6 +49,16 @@ impl Status {
             Status::DepFail => "dep_fail",
             Status::FailRetryable => "fail_retryable",
         }
+    }
+
+    /// Whether a task in this state is settled.
+    pub fn is_settled(self) -> bool
+        ensures { result ≡ is_settled self }
+    {
+        matches!(
+            self,
+            Status::ExecDone | Status::MemoDone | Status::Failed | Status::DepFail
+        )
     }
 
     /// Whether a task in this state may go to the next one.

@@ -50,7 +50,7 @@ fn take(record: &mut TaskRecord, step: Step) {
             }
         }
         Step::Finish(status) => {
-            if record.may_become(status) {
+            if status.is_settled() && record.may_become(status) {
                 record.finish(status);
             }
         }
