@@ -53,12 +53,4 @@ impl Script {
     {
         &self.main
     }
-
-    /// The places are all 0.
-    pub fn unplaced(self) -> Script
-        ensures { result.tree ≡ self.tree }
-    {
-        let Script { apps, main, places } = self;
-        Script { apps, main, places }
-    }
 }
