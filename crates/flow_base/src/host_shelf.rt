@@ -1,6 +1,7 @@
 //! A shelf over the files of the system.
 
-ghost use Rattle.std.specs.Prelude.{◌≤◌, [], false, None, length, IfOk};
+ghost use Rattle.std.specs.Prelude.{◌≡◌, ◌≤◌, ◌↔◌, [], false, None, length, IfOk};
+ghost use Rattle.std.specs.IoError.{error_kind};
 ghost use Rattle.flow_base.specs.Shelf.{CountsFault};
 
 use crate::shelf::{Shelf, ShelfFault};
@@ -19,7 +20,9 @@ pub struct HostShelf<R: Files + Drop> {
 
 impl<R: Files + Drop> HostShelf<R> {
     /// A shelf over the files that `rt` reaches.
-    pub fn new(alloc: Global, rt: R) -> HostShelf<R> {
+    pub fn new(alloc: Global, rt: R) -> HostShelf<R>
+        ensures { result.faults ≡ 0 }
+    {
         HostShelf {
             rt,
             alloc,
@@ -29,7 +32,8 @@ impl<R: Files + Drop> HostShelf<R> {
 
     // The fault of an error. It counts each but want of memory.
     fn fault(&mut self, error: &io::Error) -> ShelfFault
-        ensures { CountsFault self.old.faults self.new.faults result }
+        ensures count { CountsFault self.old.faults self.new.faults result }
+        ensures memory { result ≡ ShelfFault.NoMemory ↔ error_kind error.now ≡ ErrorKind.OutOfMemory }
     {
         if error.kind() == ErrorKind::OutOfMemory {
             return ShelfFault::NoMemory;

@@ -1,6 +1,6 @@
 //! A sink over a writer of std.
 
-ghost use Rattle.std.specs.Prelude.{[], false};
+ghost use Rattle.std.specs.Prelude.{◌≡◌, [], false};
 
 use crate::sink::{Failed, Sink};
 use std::io::Write;
@@ -14,7 +14,9 @@ pub struct HostSink<W: Write + Drop> {
 
 impl<W: Write + Drop> HostSink<W> {
     /// A sink over this writer.
-    pub fn new(writer: W) -> HostSink<W> {
+    pub fn new(writer: W) -> HostSink<W>
+        ensures { result.faults ≡ 0 }
+    {
         HostSink { writer, faults: 0 }
     }
 }
