@@ -1,7 +1,7 @@
 -- The text of a log.
 use Rattle.std.specs.Prelude.{ℕ, List, [], ◌∷◌, ◌++◌, flat_map, codes}
 use Rattle.std.specs.Fmt.{decimal}
-use Rattle.run_report.specs.Shown.{path_text}
+use Rattle.text_writer.specs.Written.{path_text}
 use Rattle.task_record.specs.States.{status_name}
 use Rattle.event_log.specs.declared.entry.Entry.{Entry}
 use Rattle.event_log.specs.declared.entry.Entry.TheVariants as entry

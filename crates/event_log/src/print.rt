@@ -5,8 +5,8 @@ ghost use Rattle.event_log.specs.LogText.{attempt_text, managed_text, entry_text
 
 use crate::entry::{Entries, Entry};
 use flow_base::Path;
-use run_report::Writer;
 use std::alloc::{AllocError, Global};
+use text_writer::Writer;
 
 // As `1.2 try 1`.
 fn print_attempt(writer: &mut Writer, path: &Path, attempt: u32) -> Result<(), AllocError>

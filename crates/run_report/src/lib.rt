@@ -5,7 +5,5 @@ pub mod report;
 #[cfg(test)]
 mod tests;
 pub mod value;
-pub mod writer;
 
 pub use report::head;
-pub use writer::Writer;

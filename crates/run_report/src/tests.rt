@@ -1,12 +1,15 @@
 //! The texts of the report.
 
-use crate::{Writer, head};
+use crate::head;
+use crate::report::print_exception;
+use crate::value::print_value;
 use flow_base::{
     Ending, Evaluation, Exception, FileOut, Files, Items, Outcome, Path, Paths, TaskEnd, TaskEnds,
     Text, Value,
 };
 use std::alloc::{AllocError, Global};
 use std::test::Fail;
+use text_writer::Writer;
 
 // Leaves out what no text holds.
 fn text(alloc: Global, bytes: &str) -> Result<Text, AllocError> {
@@ -44,13 +47,13 @@ fn numbers(alloc: Global, numbers: &[i64]) -> Result<Items, AllocError> {
 
 fn shown(alloc: Global, value: &Value) -> Result<String, Fail> {
     let mut writer = Writer::new(alloc);
-    writer.value(value)?;
+    print_value(&mut writer, value)?;
     Ok(String::from_utf8(writer.into_bytes())?)
 }
 
 fn exception_shown(alloc: Global, exception: &Exception) -> Result<String, Fail> {
     let mut writer = Writer::new(alloc);
-    writer.exception(exception)?;
+    print_exception(&mut writer, exception)?;
     Ok(String::from_utf8(writer.into_bytes())?)
 }
 

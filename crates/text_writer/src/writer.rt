@@ -2,7 +2,7 @@
 
 ghost use Rattle.std.specs.Prelude.{◌≡◌, ◌++◌, ◌∷◌, [], OnOk, map};
 ghost use Rattle.std.specs.Fmt.{decimal, signed_decimal};
-ghost use Rattle.run_report.specs.Shown.{quoted, path_text, behind, escaped};
+ghost use Rattle.text_writer.specs.Written.{quoted, path_text, behind, escaped};
 
 use flow_base::{Path, Text};
 use std::alloc::{AllocError, Global};

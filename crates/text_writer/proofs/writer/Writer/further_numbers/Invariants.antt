@@ -1,7 +1,7 @@
 use Rattle.std.proofs.Common.{◌≡◌, ◌++◌, take, [], ◌∷◌, map}
 use Rattle.std.specs.Fmt.{decimal}
-use Rattle.run_report.specs.Shown.{behind}
-use Rattle.run_report.proofs.writer.Writer.further_numbers.Given as goal
+use Rattle.text_writer.specs.Written.{behind}
+use Rattle.text_writer.proofs.writer.Writer.further_numbers.Given as goal
 
 abbrev pub invariant-loop-number : goal.invariant-loop-number
 invariant-loop-number l = l.self ≡ l.fn.self ++ behind (46 ∷ []) (map decimal (take l.number-index l.numbers))

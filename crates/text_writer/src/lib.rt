@@ -1,0 +1,8 @@
+//! Text that grows: bytes, numbers, quoted texts and paths.
+#![tactic(auto)]
+
+#[cfg(test)]
+mod tests;
+pub mod writer;
+
+pub use writer::Writer;
