@@ -15,8 +15,6 @@ pub mod numbers;
 pub mod operators;
 pub mod places;
 pub mod plain_app;
-#[cfg(test)]
-mod tests;
 pub mod texts;
 pub mod waits;
 

@@ -1,7 +1,7 @@
 //! Bodies with the values and exceptions that the language gives them.
 
-use crate::apply;
 use crate::tests::trees::{app_of, expression, returning};
+use app_eval::apply;
 use flow_base::{Ended, Items, Names, Text, Value};
 use script_tree::tree::{Block, Statement};
 use sqlite_items::{Boxed, Items as ListOf};
