@@ -1,5 +1,5 @@
 -- The run of an act that asks for nothing.
-use Rattle.std.proofs.Common.{◌≡◌, List, Result, Ok, Err, ap}
+use Rattle.std.proofs.Common.{List, Result, Ok, Err, ap}
 use Rattle.flow_meaning.specs.declared.walk.Answer.{Answer}
 use Rattle.flow_meaning.specs.Act.{Act}
 use Rattle.flow_meaning.specs.Run.{run}

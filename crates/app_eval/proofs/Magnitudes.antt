@@ -1,14 +1,12 @@
 -- An Int by the number that its digits spell, where that number is kept within 64 bits.
-use Rattle.std.proofs.Common.{◌≡◌, ℕ, zero, suc, ◌+◌, ◌-◌, ◌*◌, ◌^◌, ◌<◌, ◌≤◌, min, Option, Some, None, ℤ, pos, negsuc, Bool, true, false, refl, ap, sym, ◌∙◌, arith}
-use Rattle.std.proofs.lemmas.Grind.{common_steps}
+use Rattle.std.proofs.Common.{◌≡◌, ℕ, zero, suc, ◌-◌, ◌^◌, ◌<◌, ◌≤◌, min, Option, Some, None, pos, Bool, ap, sym, ◌∙◌, arith}
 use Rattle.std.proofs.lemmas.Int.{ints}
 use Rattle.std.proofs.lemmas.Bool.Decides.{nat_tests}
 use Rattle.std.specs.Prelude.{neg_ℤ}
 use Rattle.flow_base.specs.declared.outcome.Exception.{Exception}
 use Rattle.flow_base.specs.declared.outcome.Exception.TheVariants as x
-use Rattle.flow_base.specs.declared.value.Value.TheVariants as v
-use Rattle.flow_meaning.specs.Act.{Act, Give, Throw}
-use Rattle.flow_meaning.specs.Operators.{int, fits_int, negative, positive, the_number}
+use Rattle.flow_meaning.specs.Act.{Give, Throw}
+use Rattle.flow_meaning.specs.Operators.{int, negative, positive, the_number}
 use Rattle.app_eval.specs.Numbers.{capped}
 
 small : (n : ℕ) → n ≤ 2 ^ 63 → min n (2 ^ 64 - 1) ≡ n

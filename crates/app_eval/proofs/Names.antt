@@ -1,5 +1,5 @@
 -- A name that is none of the built-ins' has none.
-use Rattle.std.proofs.Common.{◌≡◌, ℕ, List, Option, None, false, bytes_eq, arith}
+use Rattle.std.proofs.Common.{◌≡◌, ℕ, List, None, false, bytes_eq, arith}
 use Rattle.std.specs.Prelude.{codes}
 use Rattle.std.proofs.lemmas.Grind.{common_steps}
 use Rattle.std.proofs.lemmas.Slice.Eq.{bytes_eq-Decides}

@@ -1,14 +1,13 @@
 -- Values that are past the limits.
-use Rattle.std.proofs.Common.{◌≡◌, ℕ, ℤ, ◌+◌, ◌<◌, ◌≤◌, List, [], ◌∷◌, ◌++◌, Bool, false, length, map, sum, length-append, refl, ap, rules, arith}
-use Rattle.std.proofs.lemmas.Grind.{common_steps}
+use Rattle.std.proofs.Common.{◌≡◌, ℤ, ◌+◌, ◌<◌, List, Bool, false, length, map, sum, refl, arith}
 use Rattle.std.proofs.lemmas.Bool.Decides.{nat_tests}
-use Rattle.std.specs.Prelude.{nat_le, ◌&&◌}
+use Rattle.std.specs.Prelude.{nat_le}
 use Rattle.flow_base.specs.declared.value.Value.{Value, fold-roll-Value}
 use Rattle.flow_base.specs.declared.value.Value.TheVariants as v
 use Rattle.flow_base.specs.declared.value.Value.TheVariants.{rolls-Int, rolls-Text, rolls-List}
 use Rattle.flow_base.specs.declared.outcome.Exception.TheVariants as x
-use Rattle.flow_base.specs.Values.{units, levels, fits, max_units}
-use Rattle.flow_meaning.specs.Act.{Give, Throw}
+use Rattle.flow_base.specs.Values.{units, max_units}
+use Rattle.flow_meaning.specs.Act.{Throw}
 use Rattle.flow_meaning.specs.Operators.{Text, limited}
 
 pub units-Int : (n : ℤ) → units (v.Int n) ≡ 1

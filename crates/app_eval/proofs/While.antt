@@ -1,12 +1,11 @@
 -- Loops that turn while a condition holds.
-use Rattle.std.proofs.Common.{◌≡◌, ℕ, zero, suc, ◌+◌, ◌<◌, ◌≤◌, List, Option, Some, None, refl, arith}
-use Rattle.std.proofs.lemmas.Grind.{common_steps}
+use Rattle.std.proofs.Common.{◌≡◌, ℕ, zero, suc, ◌<◌, List, Some, None, arith}
 use Rattle.flow_base.specs.declared.value.Value.{Value}
 use Rattle.flow_meaning.specs.declared.walk.Answer.{Answer}
 use Rattle.flow_meaning.specs.Meaning.{Calc, Does, State, Flow, Goes, Returns, one_turn, while_turns}
 use Rattle.app_eval.specs.declared.operators.Stop.{Stop}
 use Rattle.app_eval.specs.declared.operators.Stop.TheVariants as stop
-use Rattle.flow_meaning.specs.Run.{Ran, Gave, Threw, Asked, run}
+use Rattle.flow_meaning.specs.Run.{Ran, Gave, run}
 use Rattle.flow_meaning.proofs.Run.{run-bind}
 use Rattle.app_eval.specs.Gives.{StopsRun}
 

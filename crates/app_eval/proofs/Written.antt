@@ -3,7 +3,7 @@ use Rattle.std.proofs.Common.{◌≡◌, ℕ, zero, suc, ◌<◌, ◌+◌, List,
 use Rattle.std.proofs.lemmas.Grind.{common_steps}
 use Rattle.flow_base.specs.declared.outcome.FileOut.{FileOut}
 use Rattle.flow_base.specs.declared.outcome.Exception.TheVariants as x
-use Rattle.flow_meaning.specs.Act.{Act, Give, Throw}
+use Rattle.flow_meaning.specs.Act.{Throw}
 use Rattle.flow_meaning.specs.Operators.{Text}
 use Rattle.flow_meaning.specs.Meaning.{files_from}
 

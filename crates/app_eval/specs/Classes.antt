@@ -2,7 +2,7 @@
 use Rattle.std.specs.Prelude.{List, true, false, map}
 use Rattle.flow_base.specs.declared.value.Value.{Value}
 use Rattle.flow_base.specs.declared.value.Value.TheVariants as v
-use Rattle.flow_meaning.specs.Act.{Act, Give, ◌>>=◌}
+use Rattle.flow_meaning.specs.Act.{Give, ◌>>=◌}
 use Rattle.script_tree.specs.BuiltIns.{built_in_named}
 use Rattle.flow_meaning.specs.Operators.{Text, truth, truth_of, limited}
 use Rattle.script_tree.specs.declared.tree.CallExpr.{CallExpr}
@@ -21,7 +21,7 @@ use Rattle.script_tree.specs.declared.tree.Sum.{Sum}
 use Rattle.script_tree.specs.declared.tree.Term.{Term}
 use Rattle.script_tree.specs.declared.tree.Unary.{Unary}
 use Rattle.script_tree.specs.Folds.{fold_atom, fold_added, fold_call, fold_compared, fold_comp, fold_conj, fold_expr, fold_factor, fold_post, fold_sum, fold_term, fold_unary}
-use Rattle.flow_meaning.specs.Meaning.{Calc, Vars, meaning, until, values, applied}
+use Rattle.flow_meaning.specs.Meaning.{Calc, meaning, until, values, applied}
 
 abbrev pub atom_calc : List Text → Atom → Calc
 atom_calc apps = fold_atom (meaning apps)

@@ -1,5 +1,5 @@
 -- What each statement does, and what a function that runs a part of a body returned.
-use Rattle.std.specs.Prelude.{◌≡◌, ℕ, List, Option, Some, None, Result, Ok, Err}
+use Rattle.std.specs.Prelude.{◌≡◌, List, Option, Some, None, Result, Ok, Err}
 use Rattle.flow_base.specs.declared.value.Value.{Value}
 use Rattle.script_tree.specs.declared.tree.Expr.{Expr}
 use Rattle.script_tree.specs.declared.tree.Statement.{Statement}

@@ -1,4 +1,4 @@
-use Rattle.std.proofs.Common.{rules, arith, ◌≡◌, nat_eq, get_or, true, false, refl}
+use Rattle.std.proofs.Common.{arith, ◌≡◌, nat_eq, get_or, true, false, refl}
 use Rattle.std.proofs.lemmas.Bool.Decides.{nat_tests}
 use Rattle.app_eval.proofs.Splits.{cut_preserved, grow_preserved}
 use Rattle.app_eval.proofs.texts.pieces.Goals as goal

@@ -1,8 +1,6 @@
-use Rattle.std.proofs.Common.{rules, arith, ◌≡◌, Err}
+use Rattle.std.proofs.Common.{rules, arith, Err}
 use Rattle.std.proofs.lemmas.Grind.{common_steps}
 use Rattle.script_tree.specs.Folds.{fold_block, fold_statement}
-use Rattle.script_tree.specs.declared.tree.Statement.{fold_out-Statement}
-use Rattle.script_tree.specs.declared.tree.Block.{fold_out-Block}
 use Rattle.flow_meaning.specs.Run.{run}
 use Rattle.flow_meaning.proofs.Run.{run-bind}
 use Rattle.script_tree.specs.declared.tree.Statement.TheVariants.{rolls-Return, rolls-While, rolls-For, rolls-If, rolls-Raise, rolls-Write, rolls-Print, rolls-Checkpoint, rolls-Call}
@@ -12,7 +10,7 @@ use Rattle.flow_meaning.specs.Meaning.{repeated, value_of, does}
 use Rattle.flow_meaning.specs.Walk.{names_in}
 use Rattle.app_eval.specs.Does.{Runs, state_of}
 use Rattle.app_eval.proofs.Rules.{statement_rules}
-use Rattle.app_eval.proofs.While.{stops, goes, over, returns}
+use Rattle.app_eval.proofs.While.{stops, goes, returns}
 use Rattle.app_eval.proofs.body.Body.+statement.Goals as goal
 
 pub each-loop-item-preserved : goal.each-loop-item-preserved

@@ -1,4 +1,4 @@
-use Rattle.std.proofs.Common.{rules, arith, Err}
+use Rattle.std.proofs.Common.{rules, Err}
 use Rattle.flow_meaning.specs.Run.{run}
 use Rattle.flow_meaning.specs.Walk.{names_in}
 use Rattle.flow_meaning.proofs.Run.{run-bind}
