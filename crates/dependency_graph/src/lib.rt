@@ -1,0 +1,20 @@
+//! What a call waits for, and its arguments once that has settled.
+#![tactic(auto)]
+
+mod deep;
+mod inputs;
+mod matching;
+mod outcomes;
+mod readiness;
+mod resolved;
+mod settled;
+#[cfg(test)]
+mod tests;
+
+pub use deep::are_deep;
+pub use inputs::inputs_of;
+pub use matching::is_resolved;
+pub use outcomes::Outcomes;
+pub use readiness::{Readiness, readiness_of};
+pub use resolved::resolve;
+pub use settled::is_settled_all;

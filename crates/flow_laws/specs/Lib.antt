@@ -1,0 +1,5 @@
+pub mod Reads
+pub mod Tables
+pub mod Laws
+pub mod Legal
+pub mod Verdict
