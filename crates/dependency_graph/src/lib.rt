@@ -3,6 +3,7 @@
 
 mod deep;
 mod inputs;
+pub mod monitor;
 mod matching;
 mod outcomes;
 mod readiness;
@@ -14,6 +15,7 @@ mod tests;
 pub use deep::are_deep;
 pub use inputs::inputs_of;
 pub use matching::is_resolved;
+pub use monitor::{Monitor, Settlement};
 pub use outcomes::Outcomes;
 pub use readiness::{Readiness, readiness_of};
 pub use resolved::resolve;
