@@ -7,4 +7,4 @@ pub mod print;
 mod tests;
 
 pub use entry::{Entries, Entry};
-pub use print::print_log;
+pub use print::{print_log, write_log};

@@ -74,7 +74,8 @@ fn print_entry(writer: &mut Writer, entry: &Entry) -> Result<(), AllocError>
     }
 }
 
-fn print_entries(writer: &mut Writer, entries: &[Entry]) -> Result<(), AllocError>
+/// Adds the text of these entries: a line for each.
+pub fn write_log(writer: &mut Writer, entries: &[Entry]) -> Result<(), AllocError>
     ensures { OnOk result (writer.new ≡ writer.old ++ log_text entries.now) }
 {
     for entry in entries {
@@ -89,6 +90,6 @@ pub fn print_log(alloc: Global, entries: &Entries) -> Result<Vec<u8>, AllocError
     ensures { IfOk result (λ text. text.items ≡ log_text entries.now) }
 {
     let mut writer = Writer::new(alloc);
-    print_entries(&mut writer, entries.as_slice())?;
+    write_log(&mut writer, entries.as_slice())?;
     Ok(writer.into_bytes())
 }

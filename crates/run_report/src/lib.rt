@@ -1,9 +1,11 @@
-//! The text of values, exceptions and tasks, and the report before its log.
+//! The text of values, exceptions and tasks, the report before its log, and the whole report.
 #![tactic(auto)]
 
-pub mod report;
+pub mod lines;
 #[cfg(test)]
 mod tests;
 pub mod value;
+pub mod whole;
 
-pub use report::head;
+pub use lines::head;
+pub use whole::report;

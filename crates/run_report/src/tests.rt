@@ -1,8 +1,9 @@
 //! The texts of the report.
 
-use crate::head;
-use crate::report::print_exception;
+use crate::lines::print_exception;
 use crate::value::print_value;
+use crate::{head, report};
+use event_log::{Entries, Entry};
 use flow_base::{
     Ending, Evaluation, Exception, FileOut, Files, Items, Outcome, Path, Paths, TaskEnd, TaskEnds,
     Text, Value,
@@ -209,5 +210,51 @@ fn the_head_of_an_empty_main(rt: HostRuntime) -> Result<(), Fail> {
         main: Ending::Ended,
     };
     assert_eq!(rt; head_shown(alloc, &evaluation)?.as_str(), "main ended\n");
+    Ok(())
+}
+
+fn halved_alone(alloc: Global) -> Result<Evaluation, AllocError> {
+    let mut tasks = TaskEnds::new(alloc);
+    tasks.push(halved(alloc)?)?;
+    Ok(Evaluation {
+        printed: numbers(alloc, &[13])?,
+        tasks,
+        main: Ending::Ended,
+    })
+}
+
+fn two_entries(alloc: Global) -> Result<Entries, AllocError> {
+    let mut entries = Entries::new(alloc);
+    entries.push(Entry::Ended {
+        path: path(alloc, &[1])?,
+        attempt: 2,
+        manager: 3,
+        ended: text(alloc, "value")?,
+    })?;
+    entries.push(Entry::End)?;
+    Ok(entries)
+}
+
+fn report_shown(alloc: Global, evaluation: &Evaluation, entries: &Entries) -> Result<String, Fail> {
+    Ok(String::from_utf8(report(alloc, evaluation, entries.as_slice())?)?)
+}
+
+const REPORT: &str = "print 13
+task 1 halve value [10, 26]
+main ended
+log 2
+ended 1 try 2 manager 3 value
+end
+";
+
+#[test]
+fn a_whole_report(rt: HostRuntime) -> Result<(), Fail> {
+    let alloc = rt.alloc();
+    let evaluation = halved_alone(alloc)?;
+    let entries = two_entries(alloc)?;
+    assert_eq!(rt;
+        report_shown(alloc, &evaluation, &entries)?.as_str(),
+        REPORT
+    );
     Ok(())
 }

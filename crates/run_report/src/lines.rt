@@ -151,13 +151,20 @@ fn print_tasks(writer: &mut Writer, tasks: &[TaskEnd]) -> Result<(), AllocError>
     Ok(())
 }
 
-/// The report before its log: a line for each printed value, one for each task, and how main ended.
+/// Adds the report before its log: a line for each printed value and each task, and how main ended.
+pub fn print_head(writer: &mut Writer, evaluation: &Evaluation) -> Result<(), AllocError>
+    ensures { OnOk result (writer.new ≡ writer.old ++ head_text evaluation.now) }
+{
+    print_all_printed(writer, evaluation.printed.as_slice())?;
+    print_tasks(writer, evaluation.tasks.as_slice())?;
+    print_ending(writer, &evaluation.main)
+}
+
+/// The report before its log.
 pub fn head(alloc: Global, evaluation: &Evaluation) -> Result<Vec<u8>, AllocError>
     ensures { IfOk result (λ text. text.items ≡ head_text evaluation.now) }
 {
     let mut writer = Writer::new(alloc);
-    print_all_printed(&mut writer, evaluation.printed.as_slice())?;
-    print_tasks(&mut writer, evaluation.tasks.as_slice())?;
-    print_ending(&mut writer, &evaluation.main)?;
+    print_head(&mut writer, evaluation)?;
     Ok(writer.into_bytes())
 }
