@@ -3,8 +3,8 @@
 
 mod deep;
 mod inputs;
-pub mod monitor;
 mod matching;
+pub mod monitor;
 mod outcomes;
 mod readiness;
 mod resolved;

@@ -1,0 +1,163 @@
+-- What one more entry changes of what is read from a history.
+use Rattle.std.proofs.Common.{◌≡◌, ◌≢◌, ℕ, zero, suc, ◌+◌, ◌<◌, Bool, true, false, List, [], ◌∷◌, ◌++◌, Option, Some, IsSome, refl, sym, ◌∙◌, ap, arith, bytes_eq}
+use Rattle.std.specs.Prelude.{if◌then◌else◌}
+use Rattle.task_record.specs.declared.status.Status.{Status}
+use Rattle.event_log.specs.declared.entry.Entry.{Entry}
+use Rattle.event_log.specs.declared.entry.Entry.TheVariants as entry
+use Rattle.flow_meaning.specs.Inputs.{Path}
+use Rattle.flow_meaning.specs.Operators.{Text}
+use Rattle.flow_meaning.specs.Sequential.{MainAct}
+use Rattle.flow_laws.specs.declared.table.Act.{Act}
+use Rattle.flow_laws.specs.declared.table.Act.TheVariants as act
+use Rattle.flow_laws.specs.declared.table.Retries.{Retries}
+use Rattle.flow_laws.specs.Reads.{History, submits, is_submitted, settled, has_end}
+use Rattle.flow_laws.specs.Tables.{calls_in, waits_before, acts_of}
+use Rattle.flow_laws.specs.Laws.{AllSettled}
+use Rattle.kernel_model.specs.Known.{Life, path_of, printed_in}
+use Rattle.kernel_model.specs.Invariants.{IsLife, WaitsSettled}
+use Rattle.std.proofs.Common.{append_assoc}
+use Rattle.flow_laws.specs.Tables.{act_of}
+use Rattle.kernel_model.specs.Known.{printed_by}
+use Rattle.kernel_model.proofs.Places.{path-other}
+
+-- an entry of this task other than its submission
+abbrev pub IsOfTask : Entry → ℕ → Type 0
+IsOfTask (entry.Launch p n) k = p ≡ path_of k
+IsOfTask (entry.Start p n manager) k = p ≡ path_of k
+IsOfTask (entry.Ended p n manager kind) k = p ≡ path_of k
+IsOfTask (entry.Settled p s) k = p ≡ path_of k
+IsOfTask _ k = ⊥
+
+other_path : (p : Path) (k j : ℕ) → p ≡ path_of k → j ≢ k → bytes_eq (path_of j) p ≡ false
+other_path p k j is ne = ap (bytes_eq (path_of j)) is ∙ path-other j k ne
+
+-- it changes nothing of another task
+pub other-life : (r : Retries) (e : Entry) (k j : ℕ) (b : History) (life : Life) → IsOfTask e k → j ≢ k → IsLife r (path_of j) b life → IsLife r (path_of j) (e ∷ b) life
+other-life r (entry.Launch p n) k j b life is ne h =
+    let q = other_path p k j is ne in record {
+      reached = h.reached;
+      first = h.first;
+      opened = λ t. let a = h.opened t in record { attempts = rw q a.attempts; costs = a.costs; stage = rw q a.stage; last = rw q a.last; unsettled = a.unsettled };
+      closed = λ t. let c = h.closed t in record { settled = c.settled; state = c.state };
+    }
+other-life r (entry.Start p n manager) k j b life is ne h =
+    let q = other_path p k j is ne in record {
+      reached = h.reached;
+      first = h.first;
+      opened = λ t. let a = h.opened t in record { attempts = a.attempts; costs = a.costs; stage = rw q a.stage; last = a.last; unsettled = a.unsettled };
+      closed = λ t. let c = h.closed t in record { settled = c.settled; state = c.state };
+    }
+other-life r (entry.Ended p n manager kind) k j b life is ne h =
+    let q = other_path p k j is ne in record {
+      reached = h.reached;
+      first = h.first;
+      opened = λ t. let a = h.opened t in record { attempts = a.attempts; costs = rw q a.costs; stage = rw q a.stage; last = rw q a.last; unsettled = a.unsettled };
+      closed = λ t. let c = h.closed t in record { settled = c.settled; state = c.state };
+    }
+other-life r (entry.Settled p s) k j b life is ne h =
+    let q = other_path p k j is ne in record {
+      reached = h.reached;
+      first = h.first;
+      opened = λ t. let a = h.opened t in record { attempts = a.attempts; costs = a.costs; stage = a.stage; last = a.last; unsettled = rw q a.unsettled };
+      closed = λ t. let c = h.closed t in record { settled = rw q c.settled; state = c.state };
+    }
+other-life r (entry.Submit p app) k j b life is ne h = absurd is
+other-life r entry.End k j b life is ne h = absurd is
+
+pub task-submits : (e : Entry) (k : ℕ) (b : History) → IsOfTask e k → submits (e ∷ b) ≡ submits b
+task-submits (entry.Launch q n) k b is = refl
+task-submits (entry.Start q n manager) k b is = refl
+task-submits (entry.Ended q n manager kind) k b is = refl
+task-submits (entry.Settled q s) k b is = refl
+task-submits (entry.Submit q app) k b is = absurd is
+task-submits entry.End k b is = absurd is
+
+pub task-submitted : (e : Entry) (k : ℕ) (b : History) (p : Path) → IsOfTask e k → is_submitted p (e ∷ b) ≡ is_submitted p b
+task-submitted (entry.Launch q n) k b p is = refl
+task-submitted (entry.Start q n manager) k b p is = refl
+task-submitted (entry.Ended q n manager kind) k b p is = refl
+task-submitted (entry.Settled q s) k b p is = refl
+task-submitted (entry.Submit q app) k b p is = absurd is
+task-submitted entry.End k b p is = absurd is
+
+pub task-ends : (e : Entry) (k : ℕ) (b : History) → IsOfTask e k → has_end (e ∷ b) ≡ has_end b
+task-ends (entry.Launch q n) k b is = refl
+task-ends (entry.Start q n manager) k b is = refl
+task-ends (entry.Ended q n manager kind) k b is = refl
+task-ends (entry.Settled q s) k b is = refl
+task-ends (entry.Submit q app) k b is = absurd is
+task-ends entry.End k b is = absurd is
+
+-- a submission and the end change nothing of a task's life
+pub submit-life : (r : Retries) (q : Path) (app : Text) (p : Path) (b : History) (life : Life) → IsLife r p b life → IsLife r p (entry.Submit q app ∷ b) life
+submit-life r q app p b life h = record {
+  reached = h.reached;
+  first = h.first;
+  opened = λ t. let a = h.opened t in record { attempts = a.attempts; costs = a.costs; stage = a.stage; last = a.last; unsettled = a.unsettled };
+  closed = λ t. let c = h.closed t in record { settled = c.settled; state = c.state };
+}
+
+pub end-life : (r : Retries) (p : Path) (b : History) (life : Life) → IsLife r p b life → IsLife r p (entry.End ∷ b) life
+end-life r p b life h = record {
+  reached = h.reached;
+  first = h.first;
+  opened = λ t. let a = h.opened t in record { attempts = a.attempts; costs = a.costs; stage = a.stage; last = a.last; unsettled = a.unsettled };
+  closed = λ t. let c = h.closed t in record { settled = c.settled; state = c.state };
+}
+
+-- what has settled stays settled
+some_if : (t : Bool) (s : Status) (found : Option Status) → IsSome found → IsSome (if t then Some s else found)
+some_if true s found h = refl
+some_if false s found h = h
+
+pub settled-stays : (e : Entry) (p : Path) (b : History) → IsSome (settled p b) → IsSome (settled p (e ∷ b))
+settled-stays (entry.Launch q n) p b h = h
+settled-stays (entry.Start q n manager) p b h = h
+settled-stays (entry.Ended q n manager kind) p b h = h
+settled-stays (entry.Settled q s) p b h = some_if (bytes_eq p q) s (settled p b) h
+settled-stays (entry.Submit q app) p b h = h
+settled-stays entry.End p b h = h
+
+pub waits-stay : (e : Entry) (acts : List Act) (b : History) → WaitsSettled acts b → WaitsSettled acts (e ∷ b)
+waits-stay e [] b h = tt
+waits-stay e (act.Call ∷ acts) b h = waits-stay e acts b h
+waits-stay e (act.Wait p ∷ acts) b h = (settled-stays e p b h.0, waits-stay e acts b h.1)
+
+-- acts, one after another
+pub waits-append : (xs ys : List Act) (b : History) → WaitsSettled xs b → WaitsSettled ys b → WaitsSettled (xs ++ ys) b
+waits-append [] ys b h g = g
+waits-append (act.Call ∷ xs) ys b h g = waits-append xs ys b h g
+waits-append (act.Wait p ∷ xs) ys b h g = (h.0, waits-append xs ys b h.1 g)
+
+pub calls-append : (xs ys : List Act) → calls_in (xs ++ ys) ≡ calls_in xs + calls_in ys
+calls-append [] ys = omega arith
+calls-append (act.Call ∷ xs) ys = let e = calls-append xs ys in omega arith
+calls-append (act.Wait p ∷ xs) ys = calls-append xs ys
+
+-- further acts change no waits before a call that is there
+pub waits_before-append : (k : ℕ) (xs ys : List Act) → k < calls_in xs → waits_before k (xs ++ ys) ≡ waits_before k xs
+waits_before-append k [] ys lt = absurd (omega arith)
+waits_before-append zero (act.Call ∷ xs) ys lt = refl
+waits_before-append (suc k) (act.Call ∷ xs) ys lt = waits_before-append k xs ys (omega arith)
+waits_before-append zero (act.Wait p ∷ xs) ys lt = ap (λ (ps : List Path). p ∷ ps) (waits_before-append zero xs ys lt)
+waits_before-append (suc k) (act.Wait p ∷ xs) ys lt = ap (λ (ps : List Path). p ∷ ps) (waits_before-append (suc k) xs ys lt)
+
+waited : (k : ℕ) (acts : List Act) (b : History) → k ≡ calls_in acts → WaitsSettled acts b → AllSettled (waits_before k (acts ++ act.Call ∷ [])) b
+waited zero [] b e h = tt
+waited (suc k) [] b e h = tt
+waited zero (act.Call ∷ acts) b e h = tt
+waited (suc k) (act.Call ∷ acts) b e h = waited k acts b (omega arith) h
+waited zero (act.Wait p ∷ acts) b e h = (h.0, waited zero acts b e h.1)
+waited (suc k) (act.Wait p ∷ acts) b e h = (h.0, waited (suc k) acts b e h.1)
+
+-- all that main waited for before its next call has settled
+pub waits_before-settled : (acts : List Act) (b : History) → WaitsSettled acts b → AllSettled (waits_before (calls_in acts) (acts ++ act.Call ∷ [])) b
+waits_before-settled acts b h = waited (calls_in acts) acts b refl h
+
+pub acts_of-append : (xs ys : List MainAct) → acts_of (xs ++ ys) ≡ acts_of xs ++ acts_of ys
+acts_of-append [] ys = refl
+acts_of-append (x ∷ xs) ys = ap (λ l. act_of x ++ l) (acts_of-append xs ys) ∙ sym (append_assoc (act_of x) (acts_of xs) (acts_of ys))
+
+pub printed-append : (xs ys : List MainAct) → printed_in (xs ++ ys) ≡ printed_in xs ++ printed_in ys
+printed-append [] ys = refl
+printed-append (x ∷ xs) ys = ap (λ l. printed_by x ++ l) (printed-append xs ys) ∙ sym (append_assoc (printed_by x) (printed_in xs) (printed_in ys))

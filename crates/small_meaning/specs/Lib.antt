@@ -1,0 +1,4 @@
+pub mod Calls
+pub mod Ints
+pub mod Plan
+pub mod Steps
