@@ -1,4 +1,4 @@
--- A text has no more tokens than bytes, and a small main no more statements than tokens.
+-- A text has no more tokens than bytes, and a small script no more apps and statements than tokens.
 use Rattle.std.proofs.Common.{◌≡◌, ℕ, zero, suc, ◌+◌, ◌≤◌, Bool, true, false, cond, List, [], ◌∷◌, length, map, drop, refl, arith, Ok, Err, length-drop}
 use Rattle.std.specs.Prelude.{nat_eq}
 use Rattle.std.specs.List.{prefix_len}
@@ -77,14 +77,14 @@ terms-few (o ∷ os) rest = let more = terms-few os rest in omega (arith, more)
 body-few : (first : Operand) (others : List Operand) (rest : Tokens) → length rest ≤ length (body first others rest)
 body-few first others rest = let more = terms-few others (t.Symbol s.Semicolon ∷ t.Symbol s.CloseBlock ∷ rest) in omega (arith, more)
 
-app-few : (a : SmallApp) (rest : Tokens) → length rest ≤ length (app a rest)
+app-few : (a : SmallApp) (rest : Tokens) → suc (length rest) ≤ length (app a rest)
 unfolding app
 app-few a rest = let more = closed-few (map t.Name a.parameters) (body a.first a.others rest) in let inner = body-few a.first a.others rest in omega (arith, more, inner)
 
-apps-few : (xs : List SmallApp) (rest : Tokens) → length rest ≤ length (each app xs rest)
+apps-few : (xs : List SmallApp) (rest : Tokens) → length xs + length rest ≤ length (each app xs rest)
 apps-few [] rest = omega arith
 apps-few (a ∷ xs) rest = let more = apps-few xs rest in let one = app-few a (each app xs rest) in omega (arith, more, one)
 
-pub few-statements : (x : SmallScript) → length x.main ≤ length (spelling.script (tree_of x))
+pub few-parts : (x : SmallScript) → length x.apps + length x.main ≤ length (spelling.script (tree_of x))
 unfolding script
-few-statements x = let main = statements-few x.main (t.Symbol s.CloseBlock ∷ []) in let all = apps-few x.apps (t.Word w.Main ∷ t.Symbol s.OpenBlock ∷ statements x.main []) in rw (script-spelled x) (omega (arith, main, all))
+few-parts x = let main = statements-few x.main (t.Symbol s.CloseBlock ∷ []) in let all = apps-few x.apps (t.Word w.Main ∷ t.Symbol s.OpenBlock ∷ statements x.main []) in rw (script-spelled x) (omega (arith, main, all))

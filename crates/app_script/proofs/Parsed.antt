@@ -9,7 +9,7 @@ use Rattle.script_tree.specs.Small.{tree_of, IsSmallText}
 use Rattle.script_tree.specs.Spelling as spelling
 use Rattle.app_script.specs.declared.lexer.Tokens.{Tokens}
 use Rattle.app_script.specs.Parsing.{HasTokens, IsRightWith, IsTheScript}
-use Rattle.app_script.proofs.Lengths.{few-tokens, few-statements}
+use Rattle.app_script.proofs.Lengths.{few-tokens, few-parts}
 use Rattle.app_script.proofs.Nested.{nested}
 use Rattle.app_script.proofs.SmallFaults.{right-well_formed}
 use Rattle.app_script.proofs.Scripts.{script_once}
@@ -75,7 +75,7 @@ module _ (bytes : Text) (script : PlacedTree) (h : IsSmallText bytes script) whe
     only = only-script;
     rules = λ small is. (right-well_formed small).1 (subst IsWellFormed (sym is) h.well_formed);
     short = λ small is.
-        let few = few-statements small in
+        let few = few-parts small in
         let tokens : length (spelling.script (tree_of small)) ≡ length (lex bytes).tokens = ap length (spelled-as small is) ∙ length-map (lex bytes).tokens (λ p. p.1) in
         omega (arith, few, tokens, few-tokens bytes, h.has_tree.size);
   }

@@ -1,5 +1,5 @@
 -- What a text is parsed as.
-use Rattle.std.specs.Prelude.{◌≡◌, ◌≤◌, true, length, map, None, Result, Ok, Err}
+use Rattle.std.specs.Prelude.{◌≡◌, ◌≤◌, ◌+◌, true, length, map, None, Result, Ok, Err}
 use Rattle.script_tree.specs.declared.script.Script.{Script}
 use Rattle.script_tree.specs.declared.small.SmallScript.{SmallScript}
 use Rattle.script_tree.specs.Grammar.{PlacedTree, max_text}
@@ -17,9 +17,9 @@ use Rattle.app_script.specs.declared.parse.ParseFault.TheVariants.{NotYet, NoMem
 pub record IsTheScript (bytes : Text) (script : PlacedTree) : Type 0 where
   pub text : IsSmallText bytes script
   pub only : (other : PlacedTree) → IsSmallText bytes other → other ≡ script
-  -- read as a small script it keeps the static rules, and it has no more statements than its text has bytes
+  -- read as a small script it keeps the static rules, and it has no more apps and statements than a text may have bytes
   pub rules : (small : SmallScript) → tree_of small ≡ script.tree → script_is_right small ≡ true
-  pub short : (small : SmallScript) → tree_of small ≡ script.tree → length small.main ≤ max_text
+  pub short : (small : SmallScript) → tree_of small ≡ script.tree → length small.apps + length small.main ≤ max_text
 
 -- the text has this script, or it is that of no small script that breaks no static rule
 abbrev pub Parsed : Text → Result Script ParseFault → Type 0
