@@ -6,3 +6,4 @@ pub mod Growing
 pub mod KeepingTasks
 pub mod KeepingMain
 pub mod Facts
+pub mod Progress

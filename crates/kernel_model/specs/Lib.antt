@@ -5,3 +5,4 @@ pub mod Acts
 pub mod Turns
 pub mod Conditions
 pub mod Evaluated
+pub mod Work
