@@ -1,0 +1,8 @@
+use Rattle.std.specs.Prelude.{All}
+use Rattle.kernel_model.specs.Known.{apps_in}
+use Rattle.kernel_model.specs.Turns.{Extends}
+use Rattle.kernel_core.specs.AnyTurns.{IsHonest}
+use Rattle.kernel_core.proofs.any_turns.take_each.Given as goal
+
+abbrev pub invariant-loop-turn : goal.invariant-loop-turn
+invariant-loop-turn g l = record { extends : Extends l.fn.kernel l.kernel; honest : All (IsHonest (apps_in l.kernel)) l.turn-iterator.rest.items }

@@ -1,0 +1,7 @@
+use Rattle.std.proofs.Common.{subst}
+use Rattle.kernel_model.specs.Invariants.{Inv}
+use Rattle.kernel_core.proofs.MainViews.{holds}
+use Rattle.kernel_core.proofs.kernel.Kernel.facts.Goals as goal
+
+pub returns : goal.returns
+returns g c = holds c.args.self.now (subst Inv c.self.view_is c.self.invariant.0)

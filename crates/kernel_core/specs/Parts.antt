@@ -1,0 +1,33 @@
+-- What a kernel gives back.
+use Rattle.std.specs.Prelude.{List, [], ◌∷◌, map, Option, Some, None, slice_get}
+use Rattle.flow_base.specs.declared.outcome.Evaluation.{Evaluation}
+use Rattle.flow_base.specs.declared.outcome.Exception.{Exception}
+use Rattle.flow_base.specs.declared.outcome.Outcome.{Outcome}
+use Rattle.flow_base.specs.declared.outcome.TaskEnd.{TaskEnd}
+use Rattle.script_tree.specs.declared.tree.AppDef.{AppDef}
+use Rattle.flow_meaning.specs.Evaluations.{name_in}
+use Rattle.kernel_model.specs.Known.{outcome_in, printed_in}
+use Rattle.kernel_model.specs.Evaluated.{main_ending}
+use Rattle.kernel_core.specs.declared.task.Task.{Task}
+use Rattle.kernel_core.specs.declared.kernel.Act.{Act}
+use Rattle.kernel_core.specs.Tasks.{life_of, act_of}
+
+abbrev pub ended_with : List AppDef → Task → Option Outcome → Option TaskEnd
+ended_with apps t None = None
+ended_with apps t (Some outcome) = Some (record { path = t.record.path; app = name_in (slice_get apps t.record.app); outcome = outcome })
+
+-- the task with its outcome, if it is settled
+abbrev pub end_of : List AppDef → Task → Option TaskEnd
+end_of apps t = ended_with apps t (outcome_in (life_of t))
+
+abbrev pub with_end : Option TaskEnd → List TaskEnd → List TaskEnd
+with_end None ends = ends
+with_end (Some end) ends = end ∷ ends
+
+-- the settled ones
+abbrev pub ends_in : List AppDef → List Task → List TaskEnd
+ends_in apps [] = []
+ends_in apps (t ∷ ts) = with_end (end_of apps t) (ends_in apps ts)
+
+abbrev pub parts_of : List AppDef → List Task → List Act → Option Exception → Evaluation
+parts_of apps tasks acts raised = record { printed = printed_in (map act_of acts); tasks = ends_in apps tasks; main = main_ending raised }
