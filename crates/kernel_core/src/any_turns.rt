@@ -2,6 +2,7 @@
 
 ghost use Rattle.std.specs.Prelude.{◌≡◌, All, false};
 ghost use Rattle.kernel_model.specs.Known.{has_ended, apps_in};
+ghost use Rattle.kernel_model.specs.Invariants.{Inv};
 ghost use Rattle.kernel_model.specs.Turns.{Extends};
 ghost use Rattle.kernel_core.specs.AnyTurns.{Holds, IsHonest};
 
@@ -24,7 +25,8 @@ pub enum Turn {
 impl<M: Monitor> Kernel<M> {
     /// What every kernel promises.
     pub fn facts(&self)
-        ensures { Holds self.now }
+        ensures kept { Inv self.now }
+        ensures holds { Holds self.now }
     {
         let _ = &self.refused;
     }
