@@ -1,13 +1,6 @@
-mod Equations
-mod Sums
-mod Apps
-mod Mains
-mod Tasks
-mod Runs
-mod Whole
-mod Settling
-mod Evaluating
 mod Sound
-mod Outputs
+pub mod Outputs
 mod Lines
 mod Courses
+mod Attempts
+mod Turning

@@ -1,42 +1,92 @@
 -- What is produced for the text of a script.
-use Rattle.std.proofs.Common.{◌≡◌, ℕ, true, List, map, sym, ap, ◌∙◌, subst}
+use Rattle.std.proofs.Common.{◌≡◌, ℕ, suc, true, false, List, [], ◌∷◌, ◌++◌, map, refl, sym, ap, ◌∙◌, subst, arith, Option, Some, None, Vec, Global, Ok, Err}
+use Rattle.std.specs.Prelude.{ℤ}
+use Rattle.std.specs.List.{list_all}
+use Rattle.std.specs.declared.result.Result.{Result}
 use Rattle.script_tree.specs.declared.tree.AppDef.{AppDef}
-use Rattle.script_tree.specs.declared.tree.Block.{Block}
 use Rattle.script_tree.specs.declared.small.SmallScript.{SmallScript}
 use Rattle.script_tree.specs.Grammar.{Tree, PlacedTree}
-use Rattle.script_tree.specs.Small.{app_of, tree_of, IsSmall}
+use Rattle.script_tree.specs.Small.{app_of, tree_of}
 use Rattle.flow_base.specs.declared.outcome.Evaluation.{Evaluation}
-use Rattle.flow_meaning.specs.Sequential.{seq}
-use Rattle.flow_meaning.specs.Evaluations.{no_losses, evaluation, Overflows, IsInRange}
-use Rattle.run_report.specs.Shown.{head_text}
+use Rattle.flow_base.specs.declared.outcome.Outcome.{Outcome}
+use Rattle.flow_base.specs.declared.outcome.Outcome.TheVariants as o
+use Rattle.flow_base.specs.declared.outcome.Exception.TheVariants as x
+use Rattle.flow_meaning.specs.Sequential.{Task, Tasks, seq}
+use Rattle.flow_meaning.specs.Evaluations.{no_losses, evaluation, task_end, Overflows, IsInRange}
 use Rattle.app_script.specs.Parsing.{IsTheScript}
-use Rattle.parsl_engine.specs.Output.{Prints, IsNotYet}
-use Rattle.parsl_engine.specs.Plan.{is_sound}
+use Rattle.small_meaning.specs.Calls.{Call}
+use Rattle.small_meaning.specs.Plan.{is_sound, names_of, new_calls, values_from, ends_from}
+use Rattle.small_meaning.proofs.Sums.{and-true}
+use Rattle.small_meaning.proofs.Whole.{evaluation-is, evaluation-overflows}
+use Rattle.kernel_core.specs.Views.{Opens}
+use Rattle.run_report.specs.Reported.{report_text}
+use Rattle.parsl_engine.specs.declared.output.ScriptFault.{ScriptFault}
+use Rattle.parsl_engine.specs.declared.output.ScriptFault.TheVariants.{NotYet, NoMemory}
+use Rattle.parsl_engine.specs.declared.run.PartEnd.{PartEnd}
+use Rattle.parsl_engine.specs.declared.run.RunEnd.{RunEnd}
+use Rattle.parsl_engine.specs.Runs.{HasRun, Goes, IsRun}
+use Rattle.parsl_engine.specs.Output.{Produces, Gave, Tells, has_value}
 use Rattle.parsl_engine.proofs.Sound.{is-sound}
 
-pub apps-are : (small : SmallScript) (apps : List AppDef) (main : Block) → tree_of small ≡ (apps, main) → apps ≡ map app_of small.apps
-unfolding tree_of
-apps-are small apps main is = sym (ap (λ (t : Tree). t.0) is)
+pub opens : (bytes : List ℕ) (script : PlacedTree) → IsTheScript bytes script → Opens script.tree
+opens bytes script the =
+    let small = the.text.small in
+    let short = the.short small.small small.is in
+    record { script = small.small; is = small.is; sound = is-sound small.small (the.rules small.small small.is); few_apps = omega (arith, short); few = omega (arith, short) }
 
--- the tree of a script is that which was read as small
-pub whole-tree : (small : SmallScript) (script : PlacedTree) (apps : List AppDef) (main : Block) → apps ≡ script.tree.0 → main ≡ script.tree.1 → tree_of small ≡ (apps, main) → tree_of small ≡ script.tree
-whole-tree small script apps main a m is = is ∙ (λ i. (a i, m i))
+-- ---- runs whose tasks all have values
 
-pub sound-script : (bytes : List ℕ) (script : PlacedTree) (small : SmallScript) → IsTheScript bytes script → tree_of small ≡ script.tree → is_sound small ≡ true
-sound-script bytes script small the is = is-sound small (the.rules small is)
+-- a failed task is no value
+not-valued : (apps : List AppDef) (before : Tasks) (task : Task) (behind : Tasks) (e : Outcome) → task.outcome ≡ o.Failed x.OverflowError → list_all has_value (map (task_end apps) (before ++ task ∷ behind)) ≡ true → ⊥
+not-valued apps [] task behind e failed all = absurd (let both = and-true (has_value (task_end apps task)) _ all in let bad : false ≡ true = rw failed at both.0 in cc)
+not-valued apps (t ∷ ts) task behind e failed all = not-valued apps ts task behind e failed (and-true (has_value (task_end apps t)) _ all).1
 
-pub never-other : (bytes : List ℕ) (script : PlacedTree) → IsTheScript bytes script → (IsSmall script.tree → ⊥) → IsNotYet bytes
-never-other bytes script the no_ other text in_range = no_ the.text.small
+valued-in-range : (tree : Tree) → list_all has_value (evaluation tree).tasks ≡ true → IsInRange tree
+valued-in-range tree all over =
+    not-valued tree.0 over.before over.task over.behind over.task.outcome over.failed
+    (ap (λ (ts : Tasks). list_all has_value (map (task_end tree.0) ts)) (sym over.stands) ∙ all)
 
-pub out-of-range : (bytes : List ℕ) (script : PlacedTree) (small : SmallScript) → IsTheScript bytes script → tree_of small ≡ script.tree → Overflows (seq (tree_of small).0 (tree_of small).1 no_losses).tasks → IsNotYet bytes
-out-of-range bytes script small the is over other text in_range =
-    let tree : tree_of small ≡ other.tree = is ∙ sym (ap (λ (p : PlacedTree). p.tree) (the.only other text)) in
-    subst IsInRange (sym tree) in_range over
+all-valued : (apps : List AppDef) (k : ℕ) (cs : List Call) (zs : List ℤ) → list_all has_value (ends_from apps k cs zs) ≡ true
+all-valued apps k [] zs = refl
+all-valued apps k (c ∷ cs) [] = refl
+all-valued apps k (c ∷ cs) (z ∷ zs) = all-valued apps (suc k) cs zs
 
-pub prints : (bytes output : List ℕ) (script : PlacedTree) (small : SmallScript) (e : Evaluation) → IsTheScript bytes script → tree_of small ≡ script.tree → e ≡ evaluation (tree_of small) → IsInRange (tree_of small) → output ≡ head_text e → Prints bytes output
-prints bytes output script small e the is given in_range head = record {
-  script = script;
-  text = the.text;
-  in_range = subst IsInRange is in_range;
-  head = head ∙ ap head_text (given ∙ ap evaluation is);
-}
+-- a failed task is a sum that left 64 bits
+failed-overflows : (small : SmallScript) → is_sound small ≡ true → list_all has_value (evaluation (tree_of small)).tasks ≡ false → Overflows (seq (tree_of small).0 (tree_of small).1 no_losses).tasks
+failed-overflows small sound failed = by_values (values_from small.apps (new_calls (names_of small.apps) [] small.main) []) refl
+  where
+    by_values : (r : Option (List ℤ)) → values_from small.apps (new_calls (names_of small.apps) [] small.main) [] ≡ r → Overflows (seq (tree_of small).0 (tree_of small).1 no_losses).tasks
+    by_values None is = evaluation-overflows small sound is
+    by_values (Some all) is =
+        let valued = all-valued (map app_of small.apps) 0 (new_calls (names_of small.apps) [] small.main) all in
+        let given = ap (λ (e : Evaluation). list_all has_value e.tasks) (evaluation-is small all sound is) in
+        absurd (let bad : true ≡ false = sym valued ∙ sym given ∙ failed in cc)
+
+-- ---- what is produced
+
+gives : (tree : Tree) (run : RunEnd) (e : Evaluation) → IsRun tree run → Gave run e → HasRun tree run
+gives tree run e is gave = subst (λ (end : PartEnd). Goes tree run end) gave.ended is
+
+evaluation-of : (tree : Tree) (run : RunEnd) (e : Evaluation) → HasRun tree run → Gave run e → e ≡ evaluation tree
+evaluation-of tree run e has gave = rw gave.gave at has.gives
+
+pub produced : (bytes : List ℕ) (script : PlacedTree) (run : RunEnd) (r : Result (Vec ℕ Global) ScriptFault) → IsTheScript bytes script → IsRun script.tree run → Tells run r → Produces bytes r
+produced bytes script run (Ok text) the is tells =
+    let has = gives script.tree run tells.evaluation is tells.gave in
+    let same = evaluation-of script.tree run tells.evaluation has tells.gave in
+    record {
+      script = script;
+      text = the.text;
+      in_range = valued-in-range script.tree (ap (λ (e : Evaluation). list_all has_value e.tasks) (sym same) ∙ tells.values);
+      log = run.history;
+      whole = has.log;
+      report = tells.is ∙ ap (λ (e : Evaluation). report_text e run.history) same;
+    }
+produced bytes script run (Err NotYet) the is tells = λ other text in_range.
+    let has = gives script.tree run tells.evaluation is tells.gave in
+    let same = evaluation-of script.tree run tells.evaluation has tells.gave in
+    let small = the.text.small in
+    let tree : tree_of small.small ≡ other.tree = small.is ∙ sym (ap (λ (p : PlacedTree). p.tree) (the.only other text)) in
+    let failed = ap (λ (t : Tree). list_all has_value (evaluation t).tasks) small.is ∙ ap (λ (e : Evaluation). list_all has_value e.tasks) (sym same) ∙ tells.failed in
+    subst IsInRange (sym tree) in_range (failed-overflows small.small (is-sound small.small (the.rules small.small small.is)) failed)
+produced bytes script run (Err NoMemory) the is tells = tt

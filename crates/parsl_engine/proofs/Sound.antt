@@ -11,9 +11,9 @@ use Rattle.script_tree.specs.declared.small.SmallStatement.TheVariants as small
 use Rattle.script_tree.specs.declared.small.SmallScript.{SmallScript}
 use Rattle.script_tree.specs.Rules.{max_count}
 use Rattle.app_script.specs.SmallRules as rule
-use Rattle.parsl_engine.specs.Ints.{is_among, is_known, knows_parameters}
-use Rattle.parsl_engine.specs.Plan.{place_of, names_of, takes, is_sound, is_sound_main}
-use Rattle.parsl_engine.proofs.Sums.{and-true}
+use Rattle.small_meaning.specs.Ints.{is_among, is_known, knows_parameters}
+use Rattle.small_meaning.specs.Plan.{place_of, names_of, takes, is_sound, is_sound_main}
+use Rattle.small_meaning.proofs.Sums.{and-true}
 
 either-way : (a b : List ℕ) → bytes_eq a b ≡ bytes_eq b a
 either-way a b = by_tests (bytes_eq a b) (bytes_eq b a) refl refl

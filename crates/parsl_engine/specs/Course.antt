@@ -98,7 +98,7 @@ Printed bytes (Unread name) tells out out' = ⊥
 
 -- what the status says where the script's bytes are these
 pub record Answers (bytes : List ℕ) (status : ℕ) (tells : Bool) (out out' : SinkState) : Type 0 where
-  -- 0: the head of its report, whole
+  -- 0: its report, whole
   pub done : status ≡ 0 → WritesWhole bytes tells out out'
   -- 3 exactly where it is no small script or a sum leaves 64 bits, but for want of memory
   pub not_yet : status ≡ 3 → IsNotYet bytes
@@ -107,7 +107,7 @@ pub record Answers (bytes : List ℕ) (status : ℕ) (tells : Bool) (out out' : 
   pub unwritten : status ≡ 7 → Rose out.faults out'.faults
   -- 6 is for reads alone
   pub not_unread : status ≢ 6
-  -- nothing but a part of the head is ever written
+  -- nothing but a part of a report is ever written
   pub part : (out' ≡ out) ⊎ WritesPart bytes tells out out'
 
 -- the line on err of a status

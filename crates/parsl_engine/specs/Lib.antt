@@ -1,6 +1,5 @@
-pub mod Ints
-pub mod Plan
-pub mod Tasks
+pub mod Runs
+pub mod Rounds
 pub mod Faults
 pub mod Output
 pub mod Words

@@ -2,11 +2,10 @@
 #![tactic(auto)]
 
 pub mod ending;
-mod evaluate;
 mod output;
-mod plan;
-mod task;
+pub mod run;
 mod top;
 mod words;
 
+pub use run::{PartEnd, RunEnd, run_alone, run_attempt};
 pub use top::parsl_top;

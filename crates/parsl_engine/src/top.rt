@@ -5,8 +5,7 @@ ghost use Rattle.parsl_engine.specs.Course.{Printed, Answers, Tells, Course, NoR
 ghost use Rattle.parsl_engine.specs.Words.{script_word};
 
 use crate::ending::Ending;
-use crate::evaluate::ScriptFault;
-use crate::output::output;
+use crate::output::{ScriptFault, output};
 use crate::words::script_named;
 use flow_base::{Shelf, ShelfFault, Sink, Word, Words, write_whole};
 use std::alloc::Global;
@@ -28,7 +27,7 @@ fn print<'a, O: Sink>(alloc: Global, bytes: &[u8], out: &mut O) -> Ending<'a>
     }
 }
 
-/// Reads the script of this name, and prints the head of its report.
+/// Reads the script of this name, runs it, and prints its report.
 fn read_and_print<'a, S: Shelf, O: Sink>(
     alloc: Global,
     name: &'a Word,

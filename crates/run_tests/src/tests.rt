@@ -8,13 +8,14 @@ use std::test::Fail;
 const SUM: &[u8] =
     b"app add(a, b) {\n  return a + b;\n}\n\nmain {\n  let x = call add(1, 2);\n  let y = call add(x, 10);\n  print result(y);\n}\n";
 
-const SUM_OUT: &[u8] = b"print 13\ntask 1 add value 3\ntask 2 add value 13\nmain ended\n";
+const SUM_OUT: &[u8] =
+    b"print 13\ntask 1 add value 3\ntask 2 add value 13\nmain ended\nlog 11\nsubmit 1 add\nsubmit 2 add\nlaunch 1 try 1\nstart 1 try 1 manager 1\nended 1 try 1 manager 1 value\nsettled 1 exec_done\nlaunch 2 try 1\nstart 2 try 1 manager 1\nended 2 try 1 manager 1 value\nsettled 2 exec_done\nend\n";
 
 const DIAMOND: &[u8] =
     b"app add(a, b) { return a + b; } main { let a = call add(1, 1); let b = call add(a, 10); let c = call add(a, 20); let d = call add(b, c); }";
 
 const DIAMOND_OUT: &[u8] =
-    b"task 1 add value 2\ntask 2 add value 12\ntask 3 add value 22\ntask 4 add value 34\nmain ended\n";
+    b"task 1 add value 2\ntask 2 add value 12\ntask 3 add value 22\ntask 4 add value 34\nmain ended\nlog 21\nsubmit 1 add\nsubmit 2 add\nsubmit 3 add\nsubmit 4 add\nlaunch 1 try 1\nstart 1 try 1 manager 1\nended 1 try 1 manager 1 value\nsettled 1 exec_done\nlaunch 2 try 1\nlaunch 3 try 1\nstart 2 try 1 manager 1\nended 2 try 1 manager 1 value\nstart 3 try 1 manager 1\nended 3 try 1 manager 1 value\nsettled 2 exec_done\nsettled 3 exec_done\nlaunch 4 try 1\nstart 4 try 1 manager 1\nended 4 try 1 manager 1 value\nsettled 4 exec_done\nend\n";
 
 const OVERFLOW: &[u8] =
     b"app next(a) { return a + 1; } main { let x = call next(9223372036854775807); }";
@@ -53,7 +54,7 @@ fn a_small_script_is_run_or_refused(rt: HostRuntime) -> Result<(), Fail> {
     for (script, status, out, err) in [
         (SUM, 0, SUM_OUT, b"".as_slice()),
         (DIAMOND, 0, DIAMOND_OUT, b"".as_slice()),
-        (b"main { }", 0, b"main ended\n", b"".as_slice()),
+        (b"main { }", 0, b"main ended\nlog 1\nend\n", b"".as_slice()),
         (b"", 3, b"", NOT_YET),
         (b"main { print 1; }", 3, b"", NOT_YET),
         (OVERFLOW, 3, b"", NOT_YET),
