@@ -5,3 +5,4 @@ pub mod Views
 pub mod MainViews
 pub mod SmallTrees
 pub mod Parting
+pub mod Taking

@@ -1,5 +1,5 @@
 -- What holds after any turns in any order.
-use Rattle.std.specs.Prelude.{◌≡◌, ℕ, List, Some}
+use Rattle.std.specs.Prelude.{◌≡◌, ◌⊎◌, ℕ, Bool, true, false, List, [], ◌∷◌, Option, Some}
 use Rattle.flow_base.specs.declared.outcome.Outcome.{Outcome}
 use Rattle.script_tree.specs.declared.tree.AppDef.{AppDef}
 use Rattle.script_tree.specs.Small.{tree_of}
@@ -8,12 +8,14 @@ use Rattle.flow_laws.specs.Reads.{lost, has_end}
 use Rattle.flow_laws.specs.Tables.{table}
 use Rattle.flow_laws.specs.Legal.{IsLegal, IsComplete}
 use Rattle.flow_meaning.specs.Evaluations.{evaluation_in}
-use Rattle.kernel_model.specs.Known.{Known, no_retries, path_of, settled_outcome, apps_in}
+use Rattle.kernel_model.specs.Known.{Known, has_ended, no_retries, path_of, settled_outcome, apps_in}
 use Rattle.kernel_model.specs.Evaluated.{evaluated}
-use Rattle.kernel_model.specs.Turns.{IsEndOf}
+use Rattle.kernel_model.specs.declared.answers.Delivered.{Delivered}
+use Rattle.kernel_model.specs.Jobs.{JobView}
+use Rattle.kernel_model.specs.Acts.{refused}
+use Rattle.kernel_model.specs.Turns.{IsEndOf, script_step, CallbackTurn, FetchTurn, DeliverTurn, SettleTurn, EndTurn}
 use Rattle.kernel_core.specs.declared.any_turns.Turn.{Turn}
 use Rattle.kernel_core.specs.declared.any_turns.Turn.TheVariants as turn
-use Rattle.std.specs.Prelude.{true}
 
 -- the history is legal, each settled outcome is that of the sequential evaluation under its losses, and where
 -- the end stands the history is complete and the kernel has the whole evaluation
@@ -27,3 +29,17 @@ pub record Holds (w : Known) : Type 0 where
 abbrev pub IsHonest : List AppDef → Turn → Type 0
 IsHonest apps (turn.Deliver done) = IsEndOf apps done
 IsHonest apps _ = Unit {0}
+
+-- what a turn does
+abbrev pub Does : Known → Turn → Known → Type 0
+Does w turn.Script v = v ≡ (script_step w).1
+Does w turn.Callback v = (did : Bool) × CallbackTurn w did v
+Does w turn.Fetch v = (job : Option JobView) × FetchTurn w job v
+Does w (turn.Deliver done) v = (answer : Delivered) × DeliverTurn w done answer v
+Does w turn.Settle v = (did : Bool) × SettleTurn w did v
+Does w turn.End v = (did : Bool) × EndTurn w did v
+
+-- the turns are taken in order, up to the end or a refusal
+abbrev pub Took : List Turn → Known → Known → Type 0
+Took [] w v = v ≡ w
+Took (t ∷ ts) w v = ((has_ended w ≡ true) × (v ≡ w)) ⊎ ((has_ended w ≡ false) × ((v ≡ refused w) ⊎ ((u : Known) × Does w t u × Took ts u v)))

@@ -1,10 +1,11 @@
 //! Any turns in any order.
 
-ghost use Rattle.std.specs.Prelude.{◌≡◌, All, false};
+ghost use Rattle.std.specs.Prelude.{◌≡◌, All, false, OnOk, OnErr};
+ghost use Rattle.kernel_model.specs.Acts.{refused};
 ghost use Rattle.kernel_model.specs.Known.{has_ended, apps_in};
 ghost use Rattle.kernel_model.specs.Invariants.{Inv};
 ghost use Rattle.kernel_model.specs.Turns.{Extends};
-ghost use Rattle.kernel_core.specs.AnyTurns.{Holds, IsHonest};
+ghost use Rattle.kernel_core.specs.AnyTurns.{Holds, IsHonest, Does, Took};
 
 use crate::job::Done;
 use crate::kernel::Kernel;
@@ -36,7 +37,9 @@ impl<M: Monitor> Kernel<M> {
 pub fn take_turn<M: Monitor>(kernel: &mut Kernel<M>, turn: Turn) -> Result<(), Refusal>
     requires going { has_ended kernel.old ≡ false }
     requires honest { IsHonest (apps_in kernel.old) turn }
-    ensures { Extends kernel.old kernel.new }
+    ensures does { OnOk result (Does kernel.old turn kernel.new) }
+    ensures refused { OnErr result (kernel.new ≡ refused kernel.old) }
+    ensures extends { Extends kernel.old kernel.new }
 {
     match turn {
         Turn::Script => {
@@ -61,10 +64,11 @@ pub fn take_turn<M: Monitor>(kernel: &mut Kernel<M>, turn: Turn) -> Result<(), R
     Ok(())
 }
 
-/// Any turns in any order, up to the end or a refusal: the history only grows at its end, it is legal,
-/// and each settled outcome is that of the sequential evaluation.
+/// Any turns in any order, up to the end or a refusal: they are taken one after another, the history
+/// only grows at its end, it is legal, and each settled outcome is that of the sequential evaluation.
 pub fn take_turns<M: Monitor>(kernel: &mut Kernel<M>, turns: Vec<Turn>) -> Result<(), Refusal>
     requires { All (IsHonest (apps_in kernel.old)) turns.items }
+    ensures took { Took turns.items kernel.old kernel.new }
     ensures extends { Extends kernel.old kernel.new }
     ensures holds { Holds kernel.new }
 {
@@ -75,7 +79,8 @@ pub fn take_turns<M: Monitor>(kernel: &mut Kernel<M>, turns: Vec<Turn>) -> Resul
 
 fn take_each<M: Monitor>(kernel: &mut Kernel<M>, turns: Vec<Turn>) -> Result<(), Refusal>
     requires { All (IsHonest (apps_in kernel.old)) turns.items }
-    ensures { Extends kernel.old kernel.new }
+    ensures took { Took turns.items kernel.old kernel.new }
+    ensures extends { Extends kernel.old kernel.new }
 {
     for turn in turns {
         if kernel.ended() {
