@@ -1,0 +1,2 @@
+//! Why a canonical text is read as the tree that it shows.
+#![tactic(auto)]
