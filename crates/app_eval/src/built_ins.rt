@@ -1,41 +1,15 @@
 //! The built-ins.
 
-ghost use Rattle.std.specs.Prelude.{◌≡◌};
 ghost use Rattle.app_eval.specs.Gives.{GivesRun};
 ghost use Rattle.flow_meaning.specs.Run.{run};
 ghost use Rattle.flow_meaning.specs.Meaning as m;
-ghost use Rattle.script_tree.specs.BuiltIns.{built_in_named};
 
 use crate::answers::Answers;
 use crate::operators::Stop;
 use crate::{files, lists, numbers, texts, waits};
-use flow_base::{Text, Value};
+use flow_base::Value;
 use script_tree::tree::BuiltIn;
 use std::alloc::Global;
-
-/// The built-in of a name.
-#[tactic(auto, unfolding(script_tree::specs::BuiltIns::built_in_named))]
-pub fn named(name: &Text) -> Option<BuiltIn>
-    ensures { result ≡ built_in_named name.now }
-{
-    match name.as_str() {
-        "len" => Some(BuiltIn::Len),
-        "text" => Some(BuiltIn::Text),
-        "number" => Some(BuiltIn::Number),
-        "slice" => Some(BuiltIn::Slice),
-        "range" => Some(BuiltIn::Range),
-        "append" => Some(BuiltIn::Append),
-        "split" => Some(BuiltIn::Split),
-        "concat" => Some(BuiltIn::Concat),
-        "file" => Some(BuiltIn::File),
-        "name" => Some(BuiltIn::Name),
-        "content" => Some(BuiltIn::Content),
-        "output" => Some(BuiltIn::Output),
-        "result" => Some(BuiltIn::Result),
-        "exception" => Some(BuiltIn::Exception),
-        _ => None,
-    }
-}
 
 /// What a built-in gives.
 #[tactic(auto, using(crate::proofs::GivenRuns::gives_run))]

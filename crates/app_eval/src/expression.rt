@@ -8,12 +8,13 @@ ghost use Rattle.flow_meaning.specs.Meaning as m;
 ghost use Rattle.flow_meaning.specs.Walk.{names_in};
 
 use crate::answers::Answers;
-use crate::built_ins::{applied, named};
+use crate::built_ins::applied;
 use crate::comparisons::compared;
 use crate::operators::{Stop, added, limited, multiplied, negated, texts_of, truth, truth_of};
 use crate::places::indexed;
 use flow_base::{Exception, Items, Names, Text, Value};
 use flow_meaning::{Answer, Request};
+use script_tree::built_ins::named;
 use script_tree::tree::{
     Added, AppDef, Atom, CallExpr, Comp, Conj, Expr, Factor, Post, Sum, Term, Unary, UnaryOp,
 };

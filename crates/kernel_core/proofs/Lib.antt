@@ -6,3 +6,4 @@ pub mod MainViews
 pub mod SmallTrees
 pub mod Parting
 pub mod Taking
+pub mod Accepting

@@ -1,6 +1,6 @@
 //! Any turns in any order.
 
-ghost use Rattle.std.specs.Prelude.{◌≡◌, All, false, OnOk, OnErr};
+ghost use Rattle.std.specs.Prelude.{◌≡◌, All, true, false, OnOk, OnErr};
 ghost use Rattle.kernel_model.specs.Acts.{refused};
 ghost use Rattle.kernel_model.specs.Known.{has_ended, apps_in};
 ghost use Rattle.kernel_model.specs.Invariants.{Inv};
@@ -38,6 +38,7 @@ pub fn take_turn<M: Monitor>(kernel: &mut Kernel<M>, turn: Turn) -> Result<(), R
     requires going { has_ended kernel.old ≡ false }
     requires honest { IsHonest (apps_in kernel.old) turn }
     ensures does { OnOk result (Does kernel.old turn kernel.new) }
+    ensures accepted { OnOk result (kernel.new.refused ≡ kernel.old.refused) }
     ensures refused { OnErr result (kernel.new ≡ refused kernel.old) }
     ensures extends { Extends kernel.old kernel.new }
 {
@@ -69,6 +70,8 @@ pub fn take_turn<M: Monitor>(kernel: &mut Kernel<M>, turn: Turn) -> Result<(), R
 pub fn take_turns<M: Monitor>(kernel: &mut Kernel<M>, turns: Vec<Turn>) -> Result<(), Refusal>
     requires { All (IsHonest (apps_in kernel.old)) turns.items }
     ensures took { Took turns.items kernel.old kernel.new }
+    ensures accepted { OnOk result (kernel.new.refused ≡ kernel.old.refused) }
+    ensures refused { OnErr result ((kernel.old.refused ≡ false) × (kernel.new.refused ≡ true)) }
     ensures extends { Extends kernel.old kernel.new }
     ensures holds { Holds kernel.new }
 {
@@ -80,6 +83,8 @@ pub fn take_turns<M: Monitor>(kernel: &mut Kernel<M>, turns: Vec<Turn>) -> Resul
 fn take_each<M: Monitor>(kernel: &mut Kernel<M>, turns: Vec<Turn>) -> Result<(), Refusal>
     requires { All (IsHonest (apps_in kernel.old)) turns.items }
     ensures took { Took turns.items kernel.old kernel.new }
+    ensures accepted { OnOk result (kernel.new.refused ≡ kernel.old.refused) }
+    ensures refused { OnErr result ((kernel.old.refused ≡ false) × (kernel.new.refused ≡ true)) }
     ensures extends { Extends kernel.old kernel.new }
 {
     for turn in turns {

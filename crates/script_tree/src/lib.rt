@@ -2,6 +2,8 @@
 //! static rules.
 #![tactic(auto)]
 
+pub mod built_ins;
+pub mod checked;
 pub mod script;
 pub mod small;
 pub mod token;

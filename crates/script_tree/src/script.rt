@@ -42,8 +42,10 @@ impl Script {
         Script { apps, main, places }
     }
 
+    /// The apps, in the order of their numbers. Some text has the script's tree, but for its length.
     pub fn apps(&self) -> &[AppDef]
-        ensures { result.now ≡ self.now.tree.0 }
+        ensures apps { result.now ≡ self.now.tree.0 }
+        ensures spellable { IsSpellable self.now.tree }
     {
         self.apps.as_slice()
     }
@@ -52,5 +54,12 @@ impl Script {
         ensures { result.now ≡ self.now.tree.1 }
     {
         &self.main
+    }
+
+    /// The place of each token, in bytes from 0.
+    pub fn places(&self) -> &[u32]
+        ensures { result.now ≡ self.now.places }
+    {
+        self.places.as_slice()
     }
 }

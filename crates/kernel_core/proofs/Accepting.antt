@@ -1,0 +1,60 @@
+-- A turn that is taken refuses nothing.
+use Rattle.std.specs.Prelude.{◌||◌}
+use Rattle.std.proofs.Common.{◌≡◌, refl, sym, ap, ◌∙◌, ℕ, true, false, List, [], ◌∷◌, Option, Some, None, Bool}
+use Rattle.flow_base.specs.declared.outcome.Outcome.{Outcome}
+use Rattle.flow_base.specs.declared.outcome.Outcome.TheVariants as o
+use Rattle.flow_base.specs.declared.outcome.Exception.{Exception}
+use Rattle.script_tree.specs.declared.small.SmallStatement.{SmallStatement}
+use Rattle.script_tree.specs.declared.small.SmallStatement.TheVariants as small
+use Rattle.dependency_graph.specs.declared.readiness.Readiness.{Readiness}
+use Rattle.dependency_graph.specs.declared.readiness.Readiness.TheVariants as readiness
+use Rattle.dependency_graph.specs.Readiness.{ready}
+use Rattle.small_meaning.specs.Plan.{place_of}
+use Rattle.flow_laws.specs.Reads.{has_end}
+use Rattle.kernel_model.specs.declared.answers.Delivered.TheVariants.{Taken, Stale}
+use Rattle.kernel_model.specs.Known.{Known, known, call_at, settled_outcome, has_ended}
+use Rattle.kernel_model.specs.Turns.{with_outcome, statement_step, unless_raised, carried_out}
+use Rattle.kernel_core.specs.declared.any_turns.Turn.{Turn}
+use Rattle.kernel_core.specs.declared.any_turns.Turn.TheVariants as turn
+use Rattle.kernel_core.specs.AnyTurns.{Does}
+
+pub going_accepts : (w : Known) → has_ended w ≡ false → w.refused ≡ false
+going_accepts w going = by_test w.refused refl
+  where
+    by_test : (t : Bool) → w.refused ≡ t → w.refused ≡ false
+    by_test false e = e
+    by_test true e = let bad : (true || has_end w.past) ≡ false = ap (λ (t : Bool). t || has_end w.past) (sym e) ∙ going in absurd (cc)
+
+with_outcome-accepts : (w : Known) (k : ℕ) (rest : List SmallStatement) (r : Option Outcome) → (with_outcome w k rest r).1.refused ≡ w.refused
+with_outcome-accepts w k rest None = refl
+with_outcome-accepts w k rest (Some (o.Value value files)) = refl
+with_outcome-accepts w k rest (Some (o.Failed exception)) = refl
+
+step-accepts : (w : Known) (rest : List SmallStatement) → (statement_step w rest).1.refused ≡ w.refused
+step-accepts w [] = refl
+step-accepts w (small.Call variable app arguments ∷ rest) = refl
+step-accepts w (small.Print variable ∷ rest) = with_outcome-accepts w (place_of w.variables variable) rest (settled_outcome w (place_of w.variables variable))
+
+script-accepts : (w : Known) (raised : Option Exception) → (unless_raised raised w (statement_step w w.rest)).1.refused ≡ w.refused
+script-accepts w None = step-accepts w w.rest
+script-accepts w (Some exception) = refl
+
+carried-accepts : (w : Known) (k : ℕ) (r : Readiness) → (carried_out w k r).refused ≡ w.refused
+carried-accepts w k (readiness.Settles exception) = refl
+carried-accepts w k (readiness.Runs values) = refl
+
+same : (w u v : Known) → v ≡ u → u.refused ≡ w.refused → v.refused ≡ w.refused
+same w u v is kept = ap (λ (x : Known). x.refused) is ∙ kept
+
+pub does_accepts : (w : Known) (t : Turn) (v : Known) → Does w t v → v.refused ≡ w.refused
+does_accepts w turn.Script v is = same w _ v is (script-accepts w w.raised)
+does_accepts w turn.Callback v (true, did) = same w _ v did.after (carried-accepts w did.task (ready (known w) (call_at w did.task).arguments))
+does_accepts w turn.Callback v (false, did) = same w _ v did.1 refl
+does_accepts w turn.Fetch v (Some job, did) = same w _ v did.after refl
+does_accepts w turn.Fetch v (None, did) = same w _ v did.1 refl
+does_accepts w (turn.Deliver done) v (Taken, did) = same w _ v did.after refl
+does_accepts w (turn.Deliver done) v (Stale, did) = same w _ v did.1 refl
+does_accepts w turn.Settle v (true, did) = same w _ v did.after refl
+does_accepts w turn.Settle v (false, did) = same w _ v did.1 refl
+does_accepts w turn.End v (true, did) = same w _ v did.1 refl
+does_accepts w turn.End v (false, did) = same w _ v did.1 refl
