@@ -1,8 +1,7 @@
 -- What a lexer has left, and what it answers.
-use Rattle.std.specs.Prelude.{◌≡◌, ℕ, ◌+◌, ◌≤◌, ◌<◌, Bool, true, false, nat_eq, [], ◌∷◌, length, drop, map, Option, Some, None, Result, Ok, Err}
-use Rattle.script_tree.specs.Lexing.{Text, Lexed, lex_from, lex, is_blank, with_token, stops_at, byte_fault}
+use Rattle.std.specs.Prelude.{◌≡◌, ℕ, ◌+◌, ◌≤◌, ◌<◌, Bool, true, false, nat_eq, [], ◌∷◌, length, drop, Option, Some, None, Result, Ok, Err}
+use Rattle.script_tree.specs.Lexing.{Text, Lexed, lex_from, is_blank, with_token, stops_at, byte_fault}
 use Rattle.app_script.specs.declared.lexer.PlacedToken.{PlacedToken}
-use Rattle.app_script.specs.declared.lexer.Tokens.{Tokens}
 use Rattle.app_script.specs.declared.lexer.LexFault.{LexFault}
 use Rattle.app_script.specs.declared.lexer.LexFault.TheVariants.{Refused, NoMemory}
 use Rattle.app_script.specs.Unread.{Unread}
@@ -27,12 +26,6 @@ IsNext (Err NoMemory) old new = Unit {0}
 abbrev pub IsShorter : Result (Option PlacedToken) LexFault → Unread → Unread → Type 0
 IsShorter (Ok (Some t)) old new = length new.text < length old.text
 IsShorter _ old new = Unit {0}
-
--- the answer is all tokens of the text with their places, or its fault
-abbrev pub IsLexed : Result Tokens LexFault → Text → Type 0
-IsLexed (Ok l) text = ((lex text).fault ≡ None) × (map (λ p. p.1) (lex text).tokens ≡ l.tokens) × (map (λ p. p.0) (lex text).tokens ≡ l.places)
-IsLexed (Err (Refused kind place)) text = (lex text).fault ≡ Some (place, kind)
-IsLexed (Err NoMemory) text = Unit {0}
 
 -- ---- blanks and comments
 

@@ -1,50 +1,47 @@
 -- What a text is parsed as.
-use Rattle.std.specs.Prelude.{◌≡◌, ◌≤◌, ◌+◌, true, length, map, None, Result, Ok, Err}
+use Rattle.std.specs.Prelude.{◌≡◌, ◌++◌, ◌≤◌, ℕ, List, length, map, Some, None, Result, Ok, Err}
 use Rattle.script_tree.specs.declared.script.Script.{Script}
-use Rattle.script_tree.specs.declared.small.SmallScript.{SmallScript}
-use Rattle.script_tree.specs.Grammar.{PlacedTree, max_text}
+use Rattle.script_tree.specs.declared.token.Token.{Token}
+use Rattle.script_tree.specs.Grammar.{PlacedTree, HasTree, IsFault, max_nesting}
 use Rattle.script_tree.specs.Lexing.{Text, lex}
-use Rattle.script_tree.specs.Rules.{IsWellFormed}
-use Rattle.script_tree.specs.Small.{tree_of, IsSmallText}
-use Rattle.script_tree.specs.Spelling.{script}
-use Rattle.script_tree.specs.Spelling as spelling
-use Rattle.app_script.specs.SmallRules.{script_is_right}
-use Rattle.app_script.specs.declared.lexer.Tokens.{Tokens}
+use Rattle.grammar_machine.specs.declared.whole.SoFar.{SoFar}
+use Rattle.grammar_machine.specs.Scripts.{script_step}
+use Rattle.grammar_machine.specs.Parsing.{rest_verdict, text_verdict}
+use Rattle.app_script.specs.declared.lexer.LexFault.{LexFault}
+use Rattle.app_script.specs.declared.lexer.LexFault.TheVariants as lexer
 use Rattle.app_script.specs.declared.parse.ParseFault.{ParseFault}
-use Rattle.app_script.specs.declared.parse.ParseFault.TheVariants.{NotYet, NoMemory}
+use Rattle.app_script.specs.declared.parse.ParseFault.TheVariants.{Refused, NoMemory}
+use Rattle.app_script.specs.Lexer.{left}
+use Rattle.app_script.specs.Unread.{Unread}
 
--- the one small script that has this text
-pub record IsTheScript (bytes : Text) (script : PlacedTree) : Type 0 where
-  pub text : IsSmallText bytes script
-  pub only : (other : PlacedTree) → IsSmallText bytes other → other ≡ script
-  -- read as a small script it keeps the static rules, and it has no more apps and statements than a text may have bytes
-  pub rules : (small : SmallScript) → tree_of small ≡ script.tree → script_is_right small ≡ true
-  pub short : (small : SmallScript) → tree_of small ≡ script.tree → length small.apps + length small.main ≤ max_text
+-- the text has this script, and no other
+pub record IsScriptOf (text : Text) (script : PlacedTree) : Type 0 where
+  pub has : HasTree text script.tree script.places
+  pub only : (other : PlacedTree) → HasTree text other.tree other.places → other ≡ script
 
--- the text has this script, or it is that of no small script that breaks no static rule
-abbrev pub Parsed : Text → Result Script ParseFault → Type 0
-Parsed bytes (Ok script) = IsTheScript bytes script
-Parsed bytes (Err NotYet) = (script : PlacedTree) → IsSmallText bytes script → ⊥
-Parsed bytes (Err NoMemory) = Unit {0}
+-- the text has this fault, no other, and no script
+pub record IsRefusal (text : Text) (kind place : ℕ) : Type 0 where
+  pub fault : IsFault text kind place
+  pub only : (other at : ℕ) → IsFault text other at → (other ≡ kind) × (at ≡ place)
+  pub none : (script : PlacedTree) → HasTree text script.tree script.places → ⊥
 
--- the text is not too long, and these are all its tokens with their places
-pub record HasTokens (bytes : Text) (l : Tokens) : Type 0 where
-  pub size : length bytes ≤ max_text
-  pub whole : (lex bytes).fault ≡ None
-  pub tokens : map (λ p. p.1) (lex bytes).tokens ≡ l.tokens
-  pub places : map (λ p. p.0) (lex bytes).tokens ≡ l.places
+abbrev pub Parses : Text → Result Script ParseFault → Type 0
+Parses text (Ok script) = IsScriptOf text script
+Parses text (Err (Refused kind place)) = IsRefusal text kind place
+Parses text (Err NoMemory) = Unit {0}
 
-abbrev pub IsLexedText : Text → Result Tokens ParseFault → Type 0
-IsLexedText bytes (Ok l) = HasTokens bytes l
-IsLexedText bytes (Err NotYet) = (script : PlacedTree) → IsSmallText bytes script → ⊥
-IsLexedText bytes (Err NoMemory) = Unit {0}
+-- the state behind one more token, or the fault at it
+abbrev pub Steps : SoFar → ℕ → Token → Result SoFar ParseFault → Type 0
+Steps state place token (Ok next) = script_step state token ≡ Some next
+Steps state place token (Err (Refused kind at)) = (kind ≡ 4) × (at ≡ place) × (script_step state token ≡ None)
+Steps state place token (Err NoMemory) = Unit {0}
 
--- the small script breaks no static rule and has these tokens
-pub record IsRightWith (ts : spelling.Tokens) (small : SmallScript) : Type 0 where
-  pub spelled : script (tree_of small) ≡ ts
-  pub well_formed : IsWellFormed (tree_of small)
+abbrev pub fault_of : LexFault → ParseFault
+fault_of (lexer.Refused kind place) = Refused kind place
+fault_of lexer.NoMemory = NoMemory
 
-abbrev pub IsReadText : spelling.Tokens → Result SmallScript ParseFault → Type 0
-IsReadText ts (Ok small) = IsRightWith ts small
-IsReadText ts (Err NotYet) = (small : SmallScript) → IsRightWith ts small → ⊥
-IsReadText ts (Err NoMemory) = Unit {0}
+-- behind these tokens, the verdict on what is left is that on the text
+pub record GoesOn (text : Text) (unread : Unread) (places : List ℕ) (depth : ℕ) (state : SoFar) : Type 0 where
+  pub verdict : rest_verdict (length text) (left unread) depth state ≡ text_verdict text
+  pub places_are : map (λ p. p.0) (lex text).tokens ≡ places ++ map (λ p. p.0) (left unread).tokens
+  pub shallow : depth ≤ max_nesting

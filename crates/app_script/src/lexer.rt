@@ -9,7 +9,6 @@ ghost use Rattle.app_script.specs.declared.lexer.LexFault.TheVariants.{NoMemory}
 
 use crate::piece::{BYTE_FAULT, PieceFault, front_piece, is_blank, is_in_comment};
 use script_tree::token::Token;
-use sqlite_items::Items;
 use std::alloc::{AllocError, Global};
 use std::marker::Model;
 use thiserror::Error;
@@ -37,13 +36,6 @@ impl From<AllocError> for LexFault {
 pub struct PlacedToken {
     pub place: u32,
     pub token: Token,
-}
-
-/// The tokens of a text, and the place of each.
-#[derive(Drop)]
-pub struct Tokens {
-    pub tokens: Items<Token>,
-    pub places: Items<u32>,
 }
 
 /// A text that is read token by token. Contracts see what is left of it, and the place of that.
@@ -176,38 +168,6 @@ impl<'a> Lexer<'a> {
             Err(PieceFault::NoMemory) => Err(LexFault::NoMemory),
         }
     }
-}
-
-impl Tokens {
-    fn new(alloc: Global) -> Tokens
-        ensures { (result.tokens ≡ []) × (result.places ≡ []) }
-    {
-        Tokens {
-            tokens: Items::new(alloc),
-            places: Items::new(alloc),
-        }
-    }
-
-    fn push(&mut self, next: PlacedToken) -> Result<(), AllocError>
-        ensures { OnOk result ((self.new.tokens ≡ self.old.tokens ++ next.token ∷ []) × (self.new.places ≡ self.old.places ++ next.place ∷ [])) }
-    {
-        let PlacedToken { place, token } = next;
-        self.tokens.push(token)?;
-        self.places.push(place)
-    }
-}
-
-/// All tokens of a text of at most 1,048,576 bytes.
-pub fn lex(alloc: Global, text: &[u8]) -> Result<Tokens, LexFault>
-    requires { length text.now ≤ max_text }
-    ensures { spec.IsLexed result text.now }
-{
-    let mut lexer = Lexer::new(text);
-    let mut tokens = Tokens::new(alloc);
-    while let Some(next) = lexer.next(alloc)? {
-        tokens.push(next)?;
-    }
-    Ok(tokens)
 }
 
 #[cfg(test)]

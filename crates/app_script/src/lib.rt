@@ -1,9 +1,7 @@
-//! Reads scripts.
+//! Reads scripts and prints them.
 #![tactic(auto)]
 
 pub mod lexer;
 pub mod parse;
 mod piece;
-mod small_check;
-mod small_reader;
-mod small_tree;
+

@@ -1,27 +1,37 @@
 //! Reads a script from its text.
 
 ghost use Rattle.std.specs.Prelude.{◌≡◌, ◌≤◌, length};
-ghost use Rattle.app_script.specs.Parsing.{Parsed, IsLexedText, IsReadText};
+ghost use Rattle.script_tree.specs.Grammar as grammar;
+ghost use Rattle.app_script.specs.Parsing.{Parses, Steps};
 
-use crate::lexer::{LexFault, Tokens, lex};
-use crate::small_check::is_well_formed;
-use crate::small_reader::read;
-use crate::small_tree::tree;
+use crate::lexer::{LexFault, Lexer, PlacedToken};
+use grammar_machine::whole::SoFar;
+use script_reader::definitions::{nothing_read, script_ended, script_step};
 use script_tree::script::Script;
-use script_tree::small::SmallScript;
-use script_tree::token::Token;
+use script_tree::token::{Symbol, Token};
+use sqlite_items::Items;
 use std::alloc::{AllocError, Global};
 use thiserror::Error;
 
 /// The most bytes of a text: 1 MiB.
 const MAX_TEXT: usize = 1_048_576;
+/// How many brackets may be open at once.
+const MAX_NESTING: u32 = 64;
 
-/// Why a text was not read.
+/// The kind of a token with which no script goes on.
+const SYNTAX: u8 = 4;
+/// The kind of a bracket that would be the 65th open one.
+const TOO_DEEP: u8 = 5;
+/// The kind of a text that is too long.
+const TOO_LONG: u8 = 6;
+
+/// Why a text is no script.
 #[derive(Debug, Drop, Error)]
 pub enum ParseFault {
-    /// It is no text of a small script, or a script that breaks a static rule.
-    #[error("the text is not one of the scripts that can be read so far")]
-    NotYet,
+    /// The kind of the fault, and its place in bytes from 0. Kinds: 1 a wrong byte, 2 no token, 3 no
+    /// number, 4 a token with which no script goes on, 5 a bracket too deep, 6 a text too long.
+    #[error("parse {kind} at {place}")]
+    Refused { kind: u8, place: u32 },
     #[error("out of memory")]
     NoMemory,
 }
@@ -37,44 +47,87 @@ impl From<AllocError> for ParseFault {
     }
 }
 
-/// The tokens of a text that is not too long.
-fn lexed(alloc: Global, bytes: &[u8]) -> Result<Tokens, ParseFault>
-    ensures { IsLexedText bytes.now result }
+impl From<LexFault> for ParseFault {
+    ghost use Rattle.std.specs.Prelude.{◌≡◌};
+    ghost use Rattle.app_script.specs.Parsing.{fault_of};
+
+    ghost from_gives = { λ fault given. given ≡ fault_of fault };
+
+    fn from(fault: LexFault) -> ParseFault {
+        match fault {
+            LexFault::Refused { kind, place } => ParseFault::Refused { kind, place },
+            LexFault::NoMemory => ParseFault::NoMemory,
+        }
+    }
+}
+
+/// How many brackets are open behind a token.
+fn nesting_after(depth: u32, token: &Token) -> u32
+    requires { depth ≤ grammar.max_nesting }
+    ensures { result ≡ grammar.nesting_after depth token.now }
+{
+    match token {
+        Token::Symbol(Symbol::OpenParen | Symbol::OpenList | Symbol::OpenBlock) => depth + 1,
+        Token::Symbol(Symbol::CloseParen | Symbol::CloseList | Symbol::CloseBlock) => {
+            depth.saturating_sub(1)
+        }
+        _ => depth,
+    }
+}
+
+/// The script of a text, or its first fault from the left; at one place the one of the smaller kind
+/// is told.
+pub fn parse(alloc: Global, bytes: &[u8]) -> Result<Script, ParseFault>
+    ensures { Parses bytes.now result }
 {
     if bytes.len() > MAX_TEXT {
-        return Err(ParseFault::NotYet);
+        return Err(ParseFault::Refused {
+            kind: TOO_LONG,
+            place: MAX_TEXT as u32,
+        });
     }
-    match lex(alloc, bytes) {
-        Ok(tokens) => Ok(tokens),
-        Err(LexFault::Refused { .. }) => Err(ParseFault::NotYet),
-        Err(LexFault::NoMemory) => Err(ParseFault::NoMemory),
-    }
+    read(alloc, bytes)
 }
 
-/// The small script with these tokens, if it breaks no static rule.
-fn well_formed(alloc: Global, tokens: &[Token]) -> Result<SmallScript, ParseFault>
-    ensures { IsReadText tokens.now result }
+/// The same, of a text that isn't too long.
+fn read(alloc: Global, bytes: &[u8]) -> Result<Script, ParseFault>
+    requires { length bytes.now ≤ grammar.max_text }
+    ensures { Parses bytes.now result }
 {
-    let Some(small) = read(alloc, tokens)? else {
-        return Err(ParseFault::NotYet);
-    };
-    if is_well_formed(&small) {
-        Ok(small)
-    } else {
-        Err(ParseFault::NotYet)
+    let mut lexer = Lexer::new(bytes);
+    let mut places = Items::new(alloc);
+    let mut depth = 0;
+    let mut state = nothing_read(alloc);
+    while let Some(PlacedToken { place, token }) = lexer.next(alloc)? {
+        depth = nesting_after(depth, &token);
+        state = stepped(alloc, state, place, token)?;
+        if depth > MAX_NESTING {
+            return Err(ParseFault::Refused {
+                kind: TOO_DEEP,
+                place,
+            });
+        }
+        places.push(place)?;
+    }
+    match script_ended(state) {
+        Some((apps, main)) => Ok(Script::of(apps, main, places)),
+        None => Err(ParseFault::Refused {
+            kind: SYNTAX,
+            place: bytes.len() as u32,
+        }),
     }
 }
 
-/// The script of a text. So far only small scripts are read: apps that return a sum, and a `main`
-/// that calls them and prints their results.
-pub fn parse(alloc: Global, bytes: &[u8]) -> Result<Script, ParseFault>
-    ensures { Parsed bytes.now result }
+/// What has been read with one more token, if a script goes on with it.
+fn stepped(alloc: Global, state: SoFar, place: u32, token: Token) -> Result<SoFar, ParseFault>
+    ensures { Steps state place token result }
 {
-    let Tokens { tokens, places } = lexed(alloc, bytes)?;
-    let small = well_formed(alloc, tokens.as_slice())?;
-    let (apps, main) = tree(alloc, &small)?;
-    Ok(Script::of(apps, main, places))
+    match script_step(alloc, state, token)? {
+        Some(next) => Ok(next),
+        None => Err(ParseFault::Refused {
+            kind: SYNTAX,
+            place,
+        }),
+    }
 }
 
-#[cfg(test)]
-mod tests;

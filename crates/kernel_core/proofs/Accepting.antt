@@ -11,12 +11,11 @@ use Rattle.dependency_graph.specs.declared.readiness.Readiness.TheVariants as re
 use Rattle.dependency_graph.specs.Readiness.{ready}
 use Rattle.small_meaning.specs.Plan.{place_of}
 use Rattle.flow_laws.specs.Reads.{has_end}
+use Rattle.kernel_model.specs.declared.answers.Delivered.{Delivered}
 use Rattle.kernel_model.specs.declared.answers.Delivered.TheVariants.{Taken, Stale}
 use Rattle.kernel_model.specs.Known.{Known, known, call_at, settled_outcome, has_ended}
-use Rattle.kernel_model.specs.Turns.{with_outcome, statement_step, unless_raised, carried_out}
-use Rattle.kernel_core.specs.declared.any_turns.Turn.{Turn}
-use Rattle.kernel_core.specs.declared.any_turns.Turn.TheVariants as turn
-use Rattle.kernel_core.specs.AnyTurns.{Does}
+use Rattle.kernel_model.specs.Jobs.{JobView, DoneView}
+use Rattle.kernel_model.specs.Turns.{with_outcome, statement_step, unless_raised, carried_out, script_step, CallbackTurn, FetchTurn, DeliverTurn, SettleTurn, EndTurn}
 
 pub going_accepts : (w : Known) → has_ended w ≡ false → w.refused ≡ false
 going_accepts w going = by_test w.refused refl
@@ -46,15 +45,25 @@ carried-accepts w k (readiness.Runs values) = refl
 same : (w u v : Known) → v ≡ u → u.refused ≡ w.refused → v.refused ≡ w.refused
 same w u v is kept = ap (λ (x : Known). x.refused) is ∙ kept
 
-pub does_accepts : (w : Known) (t : Turn) (v : Known) → Does w t v → v.refused ≡ w.refused
-does_accepts w turn.Script v is = same w _ v is (script-accepts w w.raised)
-does_accepts w turn.Callback v (true, did) = same w _ v did.after (carried-accepts w did.task (ready (known w) (call_at w did.task).arguments))
-does_accepts w turn.Callback v (false, did) = same w _ v did.1 refl
-does_accepts w turn.Fetch v (Some job, did) = same w _ v did.after refl
-does_accepts w turn.Fetch v (None, did) = same w _ v did.1 refl
-does_accepts w (turn.Deliver done) v (Taken, did) = same w _ v did.after refl
-does_accepts w (turn.Deliver done) v (Stale, did) = same w _ v did.1 refl
-does_accepts w turn.Settle v (true, did) = same w _ v did.after refl
-does_accepts w turn.Settle v (false, did) = same w _ v did.1 refl
-does_accepts w turn.End v (true, did) = same w _ v did.1 refl
-does_accepts w turn.End v (false, did) = same w _ v did.1 refl
+pub accepts_script : (w v : Known) → v ≡ (script_step w).1 → v.refused ≡ w.refused
+accepts_script w v is = same w _ v is (script-accepts w w.raised)
+
+pub accepts_callback : (w v : Known) (did : Bool) → CallbackTurn w did v → v.refused ≡ w.refused
+accepts_callback w v true did = same w _ v did.after (carried-accepts w did.task (ready (known w) (call_at w did.task).arguments))
+accepts_callback w v false did = same w _ v did.1 refl
+
+pub accepts_fetch : (w v : Known) (job : Option JobView) → FetchTurn w job v → v.refused ≡ w.refused
+accepts_fetch w v (Some job) did = same w _ v did.after refl
+accepts_fetch w v None did = same w _ v did.1 refl
+
+pub accepts_deliver : (w v : Known) (done : DoneView) (answer : Delivered) → DeliverTurn w done answer v → v.refused ≡ w.refused
+accepts_deliver w v done Taken did = same w _ v did.after refl
+accepts_deliver w v done Stale did = same w _ v did.1 refl
+
+pub accepts_settle : (w v : Known) (did : Bool) → SettleTurn w did v → v.refused ≡ w.refused
+accepts_settle w v true did = same w _ v did.after refl
+accepts_settle w v false did = same w _ v did.1 refl
+
+pub accepts_end : (w v : Known) (did : Bool) → EndTurn w did v → v.refused ≡ w.refused
+accepts_end w v true did = same w _ v did.1 refl
+accepts_end w v false did = same w _ v did.1 refl

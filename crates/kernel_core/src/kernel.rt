@@ -13,6 +13,7 @@ use crate::task::Task;
 use dependency_graph::Monitor;
 use event_log::{Entries, Entry};
 use flow_base::{Exception, Text, Value};
+use script_tree::checked::Checked;
 use script_tree::script::Script;
 use script_tree::small::SmallScript;
 use small_scripts::small_script;
@@ -23,7 +24,7 @@ use std::sync::Arc;
 /// What a run begins with.
 #[derive(Drop)]
 pub struct Opening {
-    pub script: Arc<Script>,
+    pub script: Arc<Checked>,
 }
 
 /// What main did, with the numbers of calls from 0.
@@ -85,7 +86,8 @@ impl<M: Monitor> Kernel<M> {
         requires { Opens (arc_value opening.script).tree }
         ensures { IfOk result (IsNew (arc_value opening.script).tree (map M.told monitors.items)) }
     {
-        let small = small_script(alloc, opening.script.apps(), opening.script.main())?;
+        let tree = opening.script.script();
+        let small = small_script(alloc, tree.apps(), tree.main())?;
         let Some(script) = small else {
             unreachable!();
         };
@@ -129,7 +131,7 @@ impl<M: Monitor> Kernel<M> {
     pub fn script(&self) -> &Script
         ensures { result.now.tree ≡ tree_of self.now.script }
     {
-        &self.opening.script
+        self.opening.script.script()
     }
 }
 

@@ -1,7 +1,7 @@
 ghost use Rattle.std.specs.Prelude.{◌≤◌, length};
 ghost use Rattle.script_tree.specs.Grammar.{max_text};
 
-use super::{LexFault, Tokens, lex};
+use super::{LexFault, Lexer, PlacedToken};
 use script_tree::token::Token;
 use std::alloc::{AllocError, Global};
 
@@ -18,25 +18,25 @@ fn shown(alloc: Global, token: &Token) -> Result<String, AllocError> {
     }
 }
 
-fn listed(alloc: Global, lexed: &Tokens) -> Result<String, AllocError> {
-    let mut all = String::new(alloc);
-    let tokens = lexed.tokens.as_slice();
-    for (place, token) in lexed.places.as_slice().iter().zip(tokens) {
-        let token = shown(alloc, token)?;
-        let entry = format!(in alloc; "{place} {token}, ")?;
-        all.push_str(entry.as_str())?;
-    }
-    Ok(all)
-}
-
 /// The tokens of a text with their places, or its fault.
 fn answer(alloc: Global, text: &[u8]) -> Result<String, AllocError>
     requires { length text.now ≤ max_text }
 {
-    match lex(alloc, text) {
-        Ok(lexed) => listed(alloc, &lexed),
-        Err(LexFault::Refused { kind, place }) => format!(in alloc; "fault {kind} at {place}"),
-        Err(LexFault::NoMemory) => Err(AllocError),
+    let mut lexer = Lexer::new(text);
+    let mut all = String::new(alloc);
+    'tokens: loop {
+        match lexer.next(alloc) {
+            Ok(None) => return Ok(all),
+            Ok(Some(PlacedToken { place, token })) => {
+                let token = shown(alloc, &token)?;
+                let entry = format!(in alloc; "{place} {token}, ")?;
+                all.push_str(entry.as_str())?;
+            }
+            Err(LexFault::Refused { kind, place }) => {
+                return format!(in alloc; "fault {kind} at {place}");
+            }
+            Err(LexFault::NoMemory) => return Err(AllocError),
+        }
     }
 }
 

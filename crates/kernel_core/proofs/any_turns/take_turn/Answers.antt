@@ -1,6 +1,5 @@
 use Rattle.kernel_core.proofs.Turning.{extends_script, extends_callback, extends_fetch, extends_deliver, extends_settle, extends_end}
-use Rattle.kernel_core.specs.declared.any_turns.Turn.TheVariants as turn
-use Rattle.kernel_core.proofs.Accepting.{does_accepts}
+use Rattle.kernel_core.proofs.Accepting.{accepts_script, accepts_callback, accepts_fetch, accepts_deliver, accepts_settle, accepts_end}
 use Rattle.kernel_core.proofs.any_turns.take_turn.Goals as goal
 
 pub returns-in_ok-script_turn-in-Script-clause-extends : goal.returns-in_ok-script_turn-in-Script-clause-extends
@@ -22,19 +21,19 @@ pub returns-in_ok-end_turn-in-End-clause-extends : goal.returns-in_ok-end_turn-i
 returns-in_ok-end_turn-in-End-clause-extends g c = extends_end _ _ _ c.in_ok-end_turn-in-End.ensures.turn
 
 pub returns-in_ok-script_turn-in-Script-clause-accepted : goal.returns-in_ok-script_turn-in-Script-clause-accepted
-returns-in_ok-script_turn-in-Script-clause-accepted g c = does_accepts _ turn.Script _ c.in_ok-script_turn-in-Script.ensures.after
+returns-in_ok-script_turn-in-Script-clause-accepted g c = accepts_script _ _ c.in_ok-script_turn-in-Script.ensures.after
 
 pub returns-in_ok-callback_turn-in-Callback-clause-accepted : goal.returns-in_ok-callback_turn-in-Callback-clause-accepted
-returns-in_ok-callback_turn-in-Callback-clause-accepted g c = does_accepts _ turn.Callback _ (_, c.in_ok-callback_turn-in-Callback.ensures.turn)
+returns-in_ok-callback_turn-in-Callback-clause-accepted g c = accepts_callback _ _ _ c.in_ok-callback_turn-in-Callback.ensures.turn
 
 pub returns-in_ok-fetch-in-Fetch-clause-accepted : goal.returns-in_ok-fetch-in-Fetch-clause-accepted
-returns-in_ok-fetch-in-Fetch-clause-accepted g c = does_accepts _ turn.Fetch _ (_, c.in_ok-fetch-in-Fetch.ensures.turn)
+returns-in_ok-fetch-in-Fetch-clause-accepted g c = accepts_fetch _ _ _ c.in_ok-fetch-in-Fetch.ensures.turn
 
 pub returns-in-Deliver-clause-accepted : goal.returns-in-Deliver-clause-accepted
-returns-in-Deliver-clause-accepted g c = does_accepts _ (turn.Deliver _) _ (_, c.deliver.ensures)
+returns-in-Deliver-clause-accepted g c = accepts_deliver _ _ _ _ c.deliver.ensures
 
 pub returns-in_ok-settle_turn-in-Settle-clause-accepted : goal.returns-in_ok-settle_turn-in-Settle-clause-accepted
-returns-in_ok-settle_turn-in-Settle-clause-accepted g c = does_accepts _ turn.Settle _ (_, c.in_ok-settle_turn-in-Settle.ensures.turn)
+returns-in_ok-settle_turn-in-Settle-clause-accepted g c = accepts_settle _ _ _ c.in_ok-settle_turn-in-Settle.ensures.turn
 
 pub returns-in_ok-end_turn-in-End-clause-accepted : goal.returns-in_ok-end_turn-in-End-clause-accepted
-returns-in_ok-end_turn-in-End-clause-accepted g c = does_accepts _ turn.End _ (_, c.in_ok-end_turn-in-End.ensures.turn)
+returns-in_ok-end_turn-in-End-clause-accepted g c = accepts_end _ _ _ c.in_ok-end_turn-in-End.ensures.turn

@@ -8,7 +8,7 @@ use Rattle.kernel_core.proofs.kernel.Kernel.new.Goals as goal
 pub invariant_of-result : goal.invariant_of-result
 invariant_of-result g c =
     let read : tree_of c.in-Some.script ≡ (c.apps.result.now, c.main.result.now) = rw c.in-Some.is at c.in_ok-small.ensures in
-    let tree : tree_of c.in-Some.script ≡ (arc_value c.args.opening.script).tree = rw (c.apps.ensures, c.main.ensures, c.deref.ensures, c.deref-2.ensures) at read in
+    let tree : tree_of c.in-Some.script ≡ (arc_value c.args.opening.script).tree = rw (c.apps.ensures.apps, c.main.ensures, c.script-tree.ensures.script, c.deref.ensures) at read in
     let script : c.requires.script ≡ c.in-Some.script = same-tree c.requires.script c.in-Some.script (c.requires.is ∙ sym tree) in
     let sound = rw script at c.requires.sound in
     let few_apps = rw script at c.requires.few_apps in

@@ -1,0 +1,10 @@
+pub mod Least
+pub mod Seeing
+pub mod Keys
+pub mod Numbers
+pub mod Equations
+pub mod Atoms
+pub mod Statements
+pub mod Definitions
+pub mod Faults
+pub mod Names

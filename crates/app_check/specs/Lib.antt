@@ -1,0 +1,4 @@
+pub mod Seeing
+pub mod Checking
+pub mod Bodies
+pub mod Numbers

@@ -1,0 +1,2 @@
+//! Why a small script that breaks no static rule meets what a kernel begins with.
+#![tactic(auto)]
