@@ -41,11 +41,15 @@ same_script text a b has given =
     let places : a.places ≡ b.places = sym has.places ∙ given.places in
     ap (λ (t : Tree). let s : PlacedTree = record { tree = t; places = a.places } in s) trees ∙ ap (λ (ps : List ℕ). let s : PlacedTree = record { tree = b.tree; places = ps } in s) places
 
+-- a text with a tree is that of one script
+pub one_script : (text : Text) (tree : Tree) (places : List ℕ) → HasTree text tree places → IsScriptOf text (record { tree = tree; places = places })
+one_script text tree places has = record { has = has; only = λ other given. same_script text other (record { tree = tree; places = places }) given has }
+
 script_of : (text : Text) (tree : Tree) (places : List ℕ) → text_verdict text ≡ Fine tree → places_of (lex text) ≡ places → IsScriptOf text (record { tree = tree; places = places })
 script_of text tree places is at =
     let says = fine_says text tree is in
     let has : HasTree text tree places = record { size = says.size; whole = says.whole; tokens = says.tokens; places = at; nested = says.nested } in
-    record { has = has; only = λ other given. same_script text other (record { tree = tree; places = places }) given has }
+    one_script text tree places has
 
 pub too_long : (text : Text) → max_text < length text → IsRefusal text 6 max_text
 too_long text long = refusal text 6 max_text (rests.too_long text long)

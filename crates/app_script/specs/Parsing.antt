@@ -2,7 +2,7 @@
 use Rattle.std.specs.Prelude.{◌≡◌, ◌++◌, ◌≤◌, ℕ, List, length, map, Some, None, Result, Ok, Err}
 use Rattle.script_tree.specs.declared.script.Script.{Script}
 use Rattle.script_tree.specs.declared.token.Token.{Token}
-use Rattle.script_tree.specs.Grammar.{PlacedTree, HasTree, IsFault, max_nesting}
+use Rattle.script_tree.specs.Grammar.{Tree, PlacedTree, HasTree, IsFault, max_nesting}
 use Rattle.script_tree.specs.Lexing.{Text, lex}
 use Rattle.grammar_machine.specs.declared.whole.SoFar.{SoFar}
 use Rattle.grammar_machine.specs.Scripts.{script_step}
@@ -29,6 +29,11 @@ abbrev pub Parses : Text → Result Script ParseFault → Type 0
 Parses text (Ok script) = IsScriptOf text script
 Parses text (Err (Refused kind place)) = IsRefusal text kind place
 Parses text (Err NoMemory) = Unit {0}
+
+-- the text has this tree, and no other
+pub record IsTextOf (tree : Tree) (text : Text) : Type 0 where
+  pub places : List ℕ
+  pub reads : IsScriptOf text (record { tree = tree; places = places })
 
 -- the state behind one more token, or the fault at it
 abbrev pub Steps : SoFar → ℕ → Token → Result SoFar ParseFault → Type 0

@@ -4,4 +4,6 @@
 pub mod lexer;
 pub mod parse;
 mod piece;
+pub mod printing;
 
+pub use script_print::print_app;
