@@ -11,6 +11,7 @@ ghost use Rattle.app_check.specs.Bodies.{body_seen, names_of};
 use crate::body::Body;
 use crate::fault::{Fault, lesser};
 use crate::firsts::Firsts;
+use crate::kinds;
 use crate::outer::Outer;
 use crate::rules::{MAX_COUNT, is_count, is_long, outputs_of, waits};
 use crate::visible::Visible;
@@ -169,7 +170,7 @@ impl<'a> Checker<'a> {
         ensures { self.new ≡ see self.old (News name.now) }
     {
         let sees = self.sees(name);
-        self.note(sees, 7);
+        self.note(sees, kinds::REPEATED);
         self.pass();
     }
 
@@ -189,7 +190,7 @@ impl<'a> Checker<'a> {
         ensures { self.new ≡ see self.old (Uses name.now) }
     {
         let sees = self.sees(name);
-        self.note(!sees, 1);
+        self.note(!sees, kinds::UNKNOWN_NAME);
         self.pass();
     }
 
@@ -197,10 +198,15 @@ impl<'a> Checker<'a> {
         ensures { self.new ≡ all_noted self.old (built_in_faults (state_of self.old) (built_in_named name.now) count) }
     {
         match named(name) {
-            None => self.note(true, 1),
+            None => self.note(true, kinds::UNKNOWN_NAME),
             Some(built_in) => {
                 let misplaced = waits(built_in) && !self.body.is_main();
-                self.note_both(arity(built_in) != count, 3, misplaced, 5);
+                self.note_both(
+                    arity(built_in) != count,
+                    kinds::ARITY,
+                    misplaced,
+                    kinds::WAIT_OUTSIDE_MAIN,
+                );
             }
         }
     }
@@ -219,7 +225,7 @@ impl<'a> Checker<'a> {
     pub fn calls(&mut self)
         ensures { self.new ≡ see self.old Calls }
     {
-        self.note(self.body.is_plain(), 4);
+        self.note(self.body.is_plain(), kinds::CALL_IN_APP);
         self.pass();
     }
 
@@ -227,10 +233,15 @@ impl<'a> Checker<'a> {
         ensures { self.new ≡ all_noted self.old (call_faults (app_named self.old.apps name.now) count names) }
     {
         match self.apps.named(name.as_str()) {
-            None => self.note(true, 2),
+            None => self.note(true, kinds::UNKNOWN_APP),
             Some(app) => {
                 let outputs = outputs_of(app.outputs);
-                self.note_both(app.parameters.len() != count, 3, outputs != names as u64, 6);
+                self.note_both(
+                    app.parameters.len() != count,
+                    kinds::ARITY,
+                    outputs != names as u64,
+                    kinds::OUTPUTS,
+                );
             }
         }
     }
@@ -249,7 +260,7 @@ impl<'a> Checker<'a> {
     pub fn acts(&mut self)
         ensures { self.new ≡ see self.old Acts }
     {
-        self.note(!self.body.is_main(), 5);
+        self.note(!self.body.is_main(), kinds::WAIT_OUTSIDE_MAIN);
         self.pass();
     }
 
@@ -258,7 +269,7 @@ impl<'a> Checker<'a> {
     pub fn writes(&mut self)
         ensures { self.new ≡ see self.old Writes }
     {
-        self.note(!self.body.is_plain(), 6);
+        self.note(!self.body.is_plain(), kinds::OUTPUTS);
         self.pass();
     }
 
@@ -267,7 +278,7 @@ impl<'a> Checker<'a> {
     pub fn joins(&mut self, cached: bool)
         ensures { self.new ≡ see self.old (Joins cached) }
     {
-        self.note(cached, 8);
+        self.note(cached, kinds::CACHED_JOIN);
         self.pass();
     }
 
@@ -278,7 +289,7 @@ impl<'a> Checker<'a> {
     {
         let taken = self.apps.is_taken(app.name.as_str(), number);
         let long = is_long(alloc, app)?;
-        self.note_both(taken, 7, long, 9);
+        self.note_both(taken, kinds::REPEATED, long, kinds::CACHED_TOO_LONG);
         self.begin(Body::of(app));
         self.pass();
         Ok(())
@@ -290,7 +301,7 @@ impl<'a> Checker<'a> {
         ensures { OnOk result (self.new ≡ see self.old (Takes number name.now)) }
     {
         let sees = self.sees(name);
-        self.note_both(number == MAX_COUNT, 3, sees, 7);
+        self.note_both(number == MAX_COUNT, kinds::ARITY, sees, kinds::REPEATED);
         self.show(name)?;
         self.pass();
         Ok(())
@@ -301,7 +312,7 @@ impl<'a> Checker<'a> {
     pub fn has_outputs(&mut self)
         ensures { self.new ≡ see self.old HasOutputs }
     {
-        self.note(self.body.is_join(), 6);
+        self.note(self.body.is_join(), kinds::OUTPUTS);
         self.pass();
     }
 
@@ -310,7 +321,7 @@ impl<'a> Checker<'a> {
     pub fn outputs(&mut self, count: i64)
         ensures { self.new ≡ see self.old (Outputs count) }
     {
-        self.note(!is_count(count), 6);
+        self.note(!is_count(count), kinds::OUTPUTS);
         self.pass();
     }
 

@@ -8,6 +8,7 @@ mod definition;
 mod expression;
 mod fault;
 mod firsts;
+mod kinds;
 mod outer;
 mod rules;
 mod statement;
