@@ -80,6 +80,7 @@ pub fn take_turns<M: Monitor>(kernel: &mut Kernel<M>, turns: Vec<Turn>) -> Resul
     answer
 }
 
+#[tactic(auto, using(crate::proofs::Accepting::going_accepts))]
 fn take_each<M: Monitor>(kernel: &mut Kernel<M>, turns: Vec<Turn>) -> Result<(), Refusal>
     requires { All (IsHonest (apps_in kernel.old)) turns.items }
     ensures took { Took turns.items kernel.old kernel.new }

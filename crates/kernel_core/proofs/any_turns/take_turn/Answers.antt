@@ -21,7 +21,7 @@ pub returns-in_ok-end_turn-in-End-clause-extends : goal.returns-in_ok-end_turn-i
 returns-in_ok-end_turn-in-End-clause-extends g c = extends_end _ _ _ c.in_ok-end_turn-in-End.ensures.turn
 
 pub returns-in_ok-script_turn-in-Script-clause-accepted : goal.returns-in_ok-script_turn-in-Script-clause-accepted
-returns-in_ok-script_turn-in-Script-clause-accepted g c = accepts_script _ _ c.in_ok-script_turn-in-Script.ensures.after
+returns-in_ok-script_turn-in-Script-clause-accepted g c = accepts_script c.args.kernel.now _ c.in_ok-script_turn-in-Script.ensures.after
 
 pub returns-in_ok-callback_turn-in-Callback-clause-accepted : goal.returns-in_ok-callback_turn-in-Callback-clause-accepted
 returns-in_ok-callback_turn-in-Callback-clause-accepted g c = accepts_callback _ _ _ c.in_ok-callback_turn-in-Callback.ensures.turn
