@@ -3,16 +3,17 @@
 ghost use Rattle.std.specs.Prelude.{◌≡◌, false};
 ghost use Rattle.kernel_model.specs.Known.{has_ended};
 ghost use Rattle.kernel_core.specs.Views.{Opens};
+ghost use Rattle.parsl_engine.specs.Scripts.{IsOfText};
 
-use app_script::parse::parse;
 use event_log::{Entries, print_log};
 use flow_base::{Path, Paths, Text};
 use flow_laws::{Act, Expected, Retries, Table};
 use kernel_core::{Kernel, Ledger, Opening, Refusal, ScriptTurn};
 use log_verdict::verdict::verdict;
 use parsl_engine::run_attempt;
+use parsl_engine::script::{is_small, read_script};
 use run_report::head;
-use script_tree::script::Script;
+use script_tree::checked::Checked;
 use sqlite_items::Items;
 use std::alloc::{AllocError, Global};
 use std::sync::Arc;
@@ -70,7 +71,7 @@ struct Given {
 // More rounds than the diamond takes.
 const ROUNDS: usize = 40;
 
-fn run(alloc: Global, script: Script, order: Order) -> Result<Given, AllocError>
+fn run(alloc: Global, script: Checked, order: Order) -> Result<Given, AllocError>
     requires { Opens script.tree }
 {
     let opening = Opening {
@@ -90,9 +91,18 @@ fn run(alloc: Global, script: Script, order: Order) -> Result<Given, AllocError>
     })
 }
 
+fn run_small(alloc: Global, script: Checked, order: Order) -> Result<Given, AllocError>
+    requires { IsOfText script }
+{
+    if is_small(alloc, &script)? {
+        return run(alloc, script, order);
+    }
+    Err(AllocError)
+}
+
 fn run_diamond(alloc: Global, order: Order) -> Result<Given, AllocError> {
-    match parse(alloc, DIAMOND) {
-        Ok(script) => run(alloc, script, order),
+    match read_script(alloc, DIAMOND) {
+        Ok(script) => run_small(alloc, script, order),
         Err(_) => Err(AllocError),
     }
 }

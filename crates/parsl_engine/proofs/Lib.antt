@@ -1,4 +1,5 @@
 mod Sound
+mod Refusals
 pub mod Outputs
 mod Lines
 mod Courses

@@ -5,34 +5,43 @@ use Rattle.std.specs.List.{list_all}
 use Rattle.std.specs.declared.result.Result.{Result}
 use Rattle.script_tree.specs.declared.tree.AppDef.{AppDef}
 use Rattle.script_tree.specs.declared.small.SmallScript.{SmallScript}
-use Rattle.script_tree.specs.Grammar.{Tree, PlacedTree}
-use Rattle.script_tree.specs.Small.{app_of, tree_of}
+use Rattle.script_tree.specs.Grammar.{Tree, PlacedTree, HasTree}
+use Rattle.script_tree.specs.Rules.{IsWellFormed}
+use Rattle.script_tree.specs.Small.{app_of, tree_of, IsSmall}
 use Rattle.flow_base.specs.declared.outcome.Evaluation.{Evaluation}
 use Rattle.flow_base.specs.declared.outcome.Outcome.{Outcome}
 use Rattle.flow_base.specs.declared.outcome.Outcome.TheVariants as o
 use Rattle.flow_base.specs.declared.outcome.Exception.TheVariants as x
 use Rattle.flow_meaning.specs.Sequential.{Task, Tasks, seq}
 use Rattle.flow_meaning.specs.Evaluations.{no_losses, evaluation, task_end, Overflows, IsInRange}
-use Rattle.app_script.specs.Parsing.{IsTheScript}
+use Rattle.small_rules.proofs.Opening.{right, short}
 use Rattle.small_meaning.specs.Calls.{Call}
 use Rattle.small_meaning.specs.Plan.{is_sound, names_of, new_calls, values_from, ends_from}
 use Rattle.small_meaning.proofs.Sums.{and-true}
 use Rattle.small_meaning.proofs.Whole.{evaluation-is, evaluation-overflows}
 use Rattle.kernel_core.specs.Views.{Opens}
 use Rattle.run_report.specs.Reported.{report_text}
-use Rattle.parsl_engine.specs.declared.output.ScriptFault.{ScriptFault}
-use Rattle.parsl_engine.specs.declared.output.ScriptFault.TheVariants.{NotYet, NoMemory}
+use Rattle.parsl_engine.specs.declared.words.Command.TheVariants as command
+use Rattle.parsl_engine.specs.declared.script.ScriptRefusal.TheVariants.{Parse, Check, NotYet}
+use Rattle.parsl_engine.specs.declared.script.ScriptFault.{ScriptFault}
+use Rattle.parsl_engine.specs.declared.script.ScriptFault.TheVariants.{Refused, NoMemory}
 use Rattle.parsl_engine.specs.declared.run.PartEnd.{PartEnd}
 use Rattle.parsl_engine.specs.declared.run.RunEnd.{RunEnd}
 use Rattle.parsl_engine.specs.Runs.{HasRun, Goes, IsRun}
-use Rattle.parsl_engine.specs.Output.{Produces, Gave, Tells, has_value}
+use Rattle.parsl_engine.specs.Scripts.{IsOfText}
+use Rattle.parsl_engine.specs.Output.{Gives, Gave, Tells, has_value}
 use Rattle.parsl_engine.proofs.Sound.{is-sound}
 
-pub opens : (bytes : List ℕ) (script : PlacedTree) → IsTheScript bytes script → Opens script.tree
-opens bytes script the =
-    let small = the.text.small in
-    let short = the.short small.small small.is in
-    record { script = small.small; is = small.is; sound = is-sound small.small (the.rules small.small small.is); few_apps = omega (arith, short); few = omega (arith, short) }
+-- a small script that is well formed is sound
+sound_of : (small : SmallScript) (tree : Tree) → tree_of small ≡ tree → IsWellFormed tree → is_sound small ≡ true
+sound_of small tree is well_formed = is-sound small (right small (subst IsWellFormed (sym is) well_formed))
+
+pub opens : (script : PlacedTree) → IsOfText script → IsSmall script.tree → Opens script.tree
+opens script of small =
+    let text = of.is.text.has in
+    let has : HasTree of.bytes (tree_of small.small) script.places = subst (λ (t : Tree). HasTree of.bytes t script.places) (sym small.is) text in
+    let few = short of.bytes script.places small.small has in
+    record { script = small.small; is = small.is; sound = sound_of small.small script.tree small.is of.is.well_formed; few_apps = omega (arith, few); few = omega (arith, few) }
 
 -- ---- runs whose tasks all have values
 
@@ -70,23 +79,21 @@ gives tree run e is gave = subst (λ (end : PartEnd). Goes tree run end) gave.en
 evaluation-of : (tree : Tree) (run : RunEnd) (e : Evaluation) → HasRun tree run → Gave run e → e ≡ evaluation tree
 evaluation-of tree run e has gave = rw gave.gave at has.gives
 
-pub produced : (bytes : List ℕ) (script : PlacedTree) (run : RunEnd) (r : Result (Vec ℕ Global) ScriptFault) → IsTheScript bytes script → IsRun script.tree run → Tells run r → Produces bytes r
-produced bytes script run (Ok text) the is tells =
+pub run_gives : (script : PlacedTree) (run : RunEnd) (r : Result (Vec ℕ Global) ScriptFault) → IsOfText script → IsSmall script.tree → IsRun script.tree run → Tells run r → Gives command.Run script r
+run_gives script run (Ok text) of small is tells =
     let has = gives script.tree run tells.evaluation is tells.gave in
     let same = evaluation-of script.tree run tells.evaluation has tells.gave in
     record {
-      script = script;
-      text = the.text;
-      in_range = valued-in-range script.tree (ap (λ (e : Evaluation). list_all has_value e.tasks) (sym same) ∙ tells.values);
+      can_run = record { small = small; in_range = valued-in-range script.tree (ap (λ (e : Evaluation). list_all has_value e.tasks) (sym same) ∙ tells.values) };
       log = run.history;
       whole = has.log;
       report = tells.is ∙ ap (λ (e : Evaluation). report_text e run.history) same;
     }
-produced bytes script run (Err NotYet) the is tells = λ other text in_range.
+run_gives script run (Err (Refused NotYet)) of small is tells = λ can_run.
     let has = gives script.tree run tells.evaluation is tells.gave in
     let same = evaluation-of script.tree run tells.evaluation has tells.gave in
-    let small = the.text.small in
-    let tree : tree_of small.small ≡ other.tree = small.is ∙ sym (ap (λ (p : PlacedTree). p.tree) (the.only other text)) in
     let failed = ap (λ (t : Tree). list_all has_value (evaluation t).tasks) small.is ∙ ap (λ (e : Evaluation). list_all has_value e.tasks) (sym same) ∙ tells.failed in
-    subst IsInRange (sym tree) in_range (failed-overflows small.small (is-sound small.small (the.rules small.small small.is)) failed)
-produced bytes script run (Err NoMemory) the is tells = tt
+    subst IsInRange (sym small.is) can_run.in_range (failed-overflows small.small (sound_of small.small script.tree small.is of.is.well_formed) failed)
+run_gives script run (Err (Refused (Parse kind place))) of small is tells = absurd tells
+run_gives script run (Err (Refused (Check kind place))) of small is tells = absurd tells
+run_gives script run (Err NoMemory) of small is tells = tt

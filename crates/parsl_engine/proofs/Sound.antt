@@ -10,7 +10,7 @@ use Rattle.script_tree.specs.declared.small.SmallStatement.{SmallStatement}
 use Rattle.script_tree.specs.declared.small.SmallStatement.TheVariants as small
 use Rattle.script_tree.specs.declared.small.SmallScript.{SmallScript}
 use Rattle.script_tree.specs.Rules.{max_count}
-use Rattle.app_script.specs.SmallRules as rule
+use Rattle.small_rules.specs.SmallRules as rule
 use Rattle.small_meaning.specs.Ints.{is_among, is_known, knows_parameters}
 use Rattle.small_meaning.specs.Plan.{place_of, names_of, takes, is_sound, is_sound_main}
 use Rattle.small_meaning.proofs.Sums.{and-true}

@@ -1,5 +1,5 @@
 -- How a call goes: what it asks of the outside, what it writes, and what its status says.
-use Rattle.std.specs.Prelude.{◌≡◌, ◌≢◌, ◌⊎◌, ℕ, ◌+◌, Bool, true, IsTrue, List, [], ◌∷◌, ◌++◌, take, option_map, codes, IfSome, None, Some}
+use Rattle.std.specs.Prelude.{◌≡◌, ◌≢◌, ◌⊎◌, ℕ, ◌+◌, Bool, true, IsTrue, List, [], ◌∷◌, ◌++◌, take, decimal, option_map, codes, IfSome, None, Some}
 use Rattle.std.specs.declared.option.Option.{Option}
 use Rattle.flow_base.specs.Causes.{Rose}
 use Rattle.flow_base.specs.Shelf.{ShelfState, Stand, Call}
@@ -8,8 +8,12 @@ use Rattle.flow_base.specs.declared.shelf.CallKind.{CallKind}
 use Rattle.flow_base.specs.declared.shelf.CallKind.TheVariants.{Read}
 use Rattle.script_tree.specs.Grammar.{max_text}
 use Rattle.parsl_engine.specs.declared.ending.Ending.{Ending}
-use Rattle.parsl_engine.specs.declared.ending.Ending.TheVariants.{Done, Words, NotYet, Unread, Unwritten, NoMemory}
-use Rattle.parsl_engine.specs.Output.{Prints, IsNotYet}
+use Rattle.parsl_engine.specs.declared.ending.Ending.TheVariants.{Done, Refused, Unread, Unwritten, NoMemory}
+use Rattle.parsl_engine.specs.declared.script.ScriptRefusal.{ScriptRefusal}
+use Rattle.parsl_engine.specs.declared.script.ScriptRefusal.TheVariants.{Parse, Check, NotYet}
+use Rattle.parsl_engine.specs.declared.words.Command.{Command}
+use Rattle.parsl_engine.specs.Output.{Prints, Refuses}
+use Rattle.parsl_engine.specs.Words.{Meaning}
 
 -- ---- statuses and lines
 
@@ -19,8 +23,14 @@ newline = 10 ∷ []
 abbrev pub words_line : List ℕ
 words_line = codes "parsl: words" ++ newline
 
-abbrev pub not_yet_line : List ℕ
-not_yet_line = codes "parsl: script: not yet" ++ newline
+-- a fault's kind and place, behind what names it
+abbrev pub fault_line : List ℕ → ℕ → ℕ → List ℕ
+fault_line front kind place = (front ++ decimal kind) ++ ((codes " at " ++ decimal place) ++ newline)
+
+abbrev pub refusal_line : ScriptRefusal → List ℕ
+refusal_line (Parse kind place) = fault_line (codes "parsl: script: parse ") kind place
+refusal_line (Check kind place) = fault_line (codes "parsl: script: check ") kind place
+refusal_line NotYet = codes "parsl: script: not yet" ++ newline
 
 abbrev pub read_line : List ℕ → List ℕ
 read_line name = codes "parsl: read: " ++ name ++ newline
@@ -33,24 +43,18 @@ memory_line = codes "parsl: memory" ++ newline
 
 abbrev pub status_of : Ending → ℕ
 status_of Done = 0
-status_of Words = 2
-status_of NotYet = 3
-status_of (Unread name) = 6
+status_of (Refused refusal) = 3
+status_of Unread = 6
 status_of Unwritten = 7
 status_of NoMemory = 12
 
-abbrev pub line_of : Ending → List ℕ
-line_of Done = []
-line_of Words = words_line
-line_of NotYet = not_yet_line
-line_of (Unread name) = read_line name.now
-line_of Unwritten = write_line
-line_of NoMemory = memory_line
-
--- no other name is told
-abbrev pub NamesAlone : List ℕ → Ending → Type 0
-NamesAlone name (Unread other) = other.now ≡ name
-NamesAlone name _ = Unit {0}
+-- the line of a call that names this script
+abbrev pub line_of : List ℕ → Ending → List ℕ
+line_of name Done = []
+line_of name (Refused refusal) = refusal_line refusal
+line_of name Unread = read_line name
+line_of name Unwritten = write_line
+line_of name NoMemory = memory_line
 
 -- ---- the shelf
 
@@ -74,65 +78,62 @@ pub record AddsCalls (expected : List (CallKind × List ℕ)) (old new : ShelfSt
   pub added : new.calls ≡ old.calls ++ made
   pub follows : Follows made expected
 
--- ---- the run of a script
+-- ---- a command on a script
 
--- what was written of the output for a script's bytes: all, a part, or nothing
-pub record WritesPart (bytes : List ℕ) (tells : Bool) (out out' : SinkState) : Type 0 where
+-- what was written of a command's output for a script's bytes: all, a part, or nothing
+pub record WritesPart (c : Command) (bytes : List ℕ) (tells : Bool) (out out' : SinkState) : Type 0 where
   pub output : List ℕ
-  pub prints : Prints bytes output
+  pub prints : Prints c bytes output
   pub part : AddsPart tells out out' output
 
-pub record WritesWhole (bytes : List ℕ) (tells : Bool) (out out' : SinkState) : Type 0 where
+pub record WritesWhole (c : Command) (bytes : List ℕ) (tells : Bool) (out out' : SinkState) : Type 0 where
   pub output : List ℕ
-  pub prints : Prints bytes output
+  pub prints : Prints c bytes output
   pub whole : Adds tells out out' output
 
--- how the printing of a script's output ends
-abbrev pub Printed : List ℕ → Ending → Bool → SinkState → SinkState → Type 0
-Printed bytes Done tells out out' = WritesWhole bytes tells out out'
-Printed bytes NotYet tells out out' = IsNotYet bytes × (out' ≡ out)
-Printed bytes Unwritten tells out out' = WritesPart bytes tells out out' × Rose out.faults out'.faults
-Printed bytes NoMemory tells out out' = out' ≡ out
-Printed bytes Words tells out out' = ⊥
-Printed bytes (Unread name) tells out out' = ⊥
+-- how the printing of a command's output ends
+abbrev pub Printed : Command → List ℕ → Ending → Bool → SinkState → SinkState → Type 0
+Printed c bytes Done tells out out' = WritesWhole c bytes tells out out'
+Printed c bytes (Refused refusal) tells out out' = Refuses c bytes refusal × (out' ≡ out)
+Printed c bytes Unread tells out out' = ⊥
+Printed c bytes Unwritten tells out out' = WritesPart c bytes tells out out' × Rose out.faults out'.faults
+Printed c bytes NoMemory tells out out' = out' ≡ out
 
--- what the status says where the script's bytes are these
-pub record Answers (bytes : List ℕ) (status : ℕ) (tells : Bool) (out out' : SinkState) : Type 0 where
-  -- 0: its report, whole
-  pub done : status ≡ 0 → WritesWhole bytes tells out out'
-  -- 3 exactly where it is no small script or a sum leaves 64 bits, but for want of memory
-  pub not_yet : status ≡ 3 → IsNotYet bytes
-  pub refused : IsNotYet bytes → (status ≡ 3) ⊎ (status ≡ 12)
-  -- 7: a fault of out
-  pub unwritten : status ≡ 7 → Rose out.faults out'.faults
-  -- 6 is for reads alone
-  pub not_unread : status ≢ 6
-  -- nothing but a part of a report is ever written
-  pub part : (out' ≡ out) ⊎ WritesPart bytes tells out out'
+-- what an ending says where the script's bytes are these
+pub record Answers (c : Command) (bytes : List ℕ) (ending : Ending) (tells : Bool) (out out' : SinkState) : Type 0 where
+  -- the command's output, whole
+  pub done : ending ≡ Done → WritesWhole c bytes tells out out'
+  -- refused exactly where there is a cause, but for want of memory, and for that cause
+  pub refused : (refusal : ScriptRefusal) → ending ≡ Refused refusal → Refuses c bytes refusal
+  pub causes : (refusal : ScriptRefusal) → Refuses c bytes refusal → (ending ≡ Refused refusal) ⊎ (ending ≡ NoMemory)
+  -- a fault of out
+  pub unwritten : ending ≡ Unwritten → Rose out.faults out'.faults
+  -- for reads alone
+  pub not_unread : ending ≢ Unread
+  -- nothing but a part of the output is ever written
+  pub part : (out' ≡ out) ⊎ WritesPart c bytes tells out out'
 
--- the line on err of a status
-pub record Tells (name : List ℕ) (status : ℕ) (tells : Bool) (err err' : SinkState) : Type 0 where
-  pub done : status ≡ 0 → AddsUnlessFailed tells err err' []
-  pub not_yet : status ≡ 3 → AddsUnlessFailed tells err err' not_yet_line
-  pub unread : status ≡ 6 → AddsUnlessFailed tells err err' (read_line name)
-  pub unwritten : status ≡ 7 → AddsUnlessFailed tells err err' write_line
-  pub memory : status ≡ 12 → AddsUnlessFailed tells err err' memory_line
-
--- a run of the script of this name
-pub record Course (name : List ℕ) (status : ℕ) (shelf_tells out_tells : Bool) (shelf shelf' : ShelfState) (out out' : SinkState) : Type 0 where
-  pub one_of : (status ≡ 0) ⊎ (status ≡ 3) ⊎ (status ≡ 6) ⊎ (status ≡ 7) ⊎ (status ≡ 12)
+-- a command on the script of this name
+pub record Course (c : Command) (name : List ℕ) (ending : Ending) (shelf_tells out_tells : Bool) (shelf shelf' : ShelfState) (out out' : SinkState) : Type 0 where
   -- the script's bytes, where the read gave them
   pub given : Option (List ℕ)
   pub gave : IfSome given (Gave shelf_tells shelf name)
-  pub answers : IfSome given (λ bytes. Answers bytes status out_tells out out')
+  pub answers : IfSome given (λ bytes. Answers c bytes ending out_tells out out')
   -- a read that failed, or want of memory
-  pub not_given : given ≡ None → (status ≡ 6) ⊎ (status ≡ 12)
+  pub not_given : given ≡ None → (ending ≡ Unread) ⊎ (ending ≡ NoMemory)
   pub nothing : given ≡ None → out' ≡ out
-  -- 6 only where the count rose in the read, and else it stays
-  pub unread : status ≡ 6 → Rose shelf.faults shelf'.faults
-  pub kept : status ≢ 6 → shelf'.faults ≡ shelf.faults
+  -- unread only where the count rose in the read, and else it stays
+  pub unread : ending ≡ Unread → Rose shelf.faults shelf'.faults
+  pub kept : ending ≢ Unread → shelf'.faults ≡ shelf.faults
   -- the one read
   pub calls : IsTrue shelf_tells → AddsCalls ((Read, name) ∷ []) shelf shelf'
+
+-- an order is carried out: the status and the line are those of an ending, 0, 3, 6, 7 or 12
+pub record Carries (m : Meaning) (status : ℕ) (shelf_tells out_tells err_tells : Bool) (shelf shelf' : ShelfState) (out out' err err' : SinkState) : Type 0 where
+  pub ending : Ending
+  pub status_is : status ≡ status_of ending
+  pub line : AddsUnlessFailed err_tells err err' (line_of m.1 ending)
+  pub course : Course m.0 m.1 ending shelf_tells out_tells shelf shelf' out out'
 
 -- words that mean nothing
 pub record NoReading (status : ℕ) (tells : Bool) (shelf shelf' : ShelfState) (out out' err err' : SinkState) : Type 0 where

@@ -1,6 +1,8 @@
 pub mod Runs
 pub mod Rounds
-pub mod Faults
+pub mod Scripts
 pub mod Output
 pub mod Words
+pub mod Orders
+pub mod Endings
 pub mod Course

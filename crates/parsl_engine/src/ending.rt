@@ -1,64 +1,111 @@
-//! How a call ends: its status and its line on err.
+//! How a command on a script ends: its status and its line on err.
 
-ghost use Rattle.std.specs.Prelude.{◌≡◌};
+ghost use Rattle.std.specs.Prelude.{◌≡◌, ◌++◌, decimal};
+ghost use Rattle.flow_base.specs.Causes.{HasCause};
 ghost use Rattle.flow_base.specs.Sink.{AddsUnlessFailed};
-ghost use Rattle.parsl_engine.specs.Course.{status_of, line_of, read_line};
+ghost use Rattle.parsl_engine.specs.Course.{status_of, line_of, read_line, refusal_line, fault_line};
 
+use crate::script::{ScriptFault, ScriptRefusal};
 use flow_base::{Failed, Sink, Word, write_whole};
+use itoa::Buffer;
 
-/// How a call ends.
-#[derive(Drop)]
-pub enum Ending<'a> {
-    /// The whole report was written.
+/// How a command on a script ends.
+#[derive(Clone, Copy, Debug, PartialEq, Eq)]
+pub enum Ending {
+    /// The whole output was written.
     Done,
-    /// The words mean nothing.
-    Words,
-    /// A script form that isn't built.
-    NotYet,
-    /// The file of this name wasn't read.
-    Unread(&'a Word),
-    /// The report wasn't written whole.
+    /// The script's bytes are no script that the command takes.
+    Refused(ScriptRefusal),
+    /// The script wasn't read.
+    Unread,
+    /// The output wasn't written whole.
     Unwritten,
     NoMemory,
 }
 
-impl Ending<'_> {
+impl From<ScriptFault> for Ending {
+    ghost use Rattle.std.specs.Prelude.{◌≡◌};
+    ghost use Rattle.parsl_engine.specs.Endings.{ending_of};
+
+    ghost from_gives = { λ fault ending. ending ≡ ending_of fault };
+
+    fn from(fault: ScriptFault) -> Ending {
+        match fault {
+            ScriptFault::Refused(refusal) => Ending::Refused(refusal),
+            ScriptFault::NoMemory => Ending::NoMemory,
+        }
+    }
+}
+
+impl Ending {
     /// The exit status.
-    pub fn status(&self) -> u8
-        ensures { result ≡ status_of self.now }
+    pub fn status(self) -> u8
+        ensures { result ≡ status_of self }
     {
         match self {
             Ending::Done => 0,
-            Ending::Words => 2,
-            Ending::NotYet => 3,
-            Ending::Unread(_) => 6,
+            Ending::Refused(_) => 3,
+            Ending::Unread => 6,
             Ending::Unwritten => 7,
             Ending::NoMemory => 12,
         }
     }
 
-    /// Writes the line of the ending, or the first bytes of it where err fails.
-    fn tell<E: Sink>(&self, err: &mut E) -> Result<(), Failed>
-        ensures { AddsUnlessFailed E.tells (E.state err.old) (E.state err.new) (line_of self.now) }
+    /// Writes the line of a call that names this script, or the first bytes of it where err fails.
+    fn tell<E: Sink>(self, script: &Word, err: &mut E) -> Result<(), Failed>
+        ensures { AddsUnlessFailed E.tells (E.state err.old) (E.state err.new) (line_of script.now self) }
     {
         match self {
             Ending::Done => Ok(()),
-            Ending::Words => write_whole(err, b"parsl: words\n"),
-            Ending::NotYet => write_whole(err, b"parsl: script: not yet\n"),
-            Ending::Unread(name) => tell_unread(name.as_str(), err),
+            Ending::Refused(refusal) => tell_refusal(refusal, err),
+            Ending::Unread => tell_unread(script.as_str(), err),
             Ending::Unwritten => write_whole(err, b"parsl: write\n"),
             Ending::NoMemory => write_whole(err, b"parsl: memory\n"),
         }
     }
 
     /// Writes the line, and gives the status. A failing write changes nothing.
-    pub fn finish<E: Sink>(&self, err: &mut E) -> u8
-        ensures status { result ≡ status_of self.now }
-        ensures line { AddsUnlessFailed E.tells (E.state err.old) (E.state err.new) (line_of self.now) }
+    pub fn finish<E: Sink>(self, script: &Word, err: &mut E) -> u8
+        ensures status { result ≡ status_of self }
+        ensures line { AddsUnlessFailed E.tells (E.state err.old) (E.state err.new) (line_of script.now self) }
     {
-        let _ = self.tell(err);
+        let _ = self.tell(script, err);
         self.status()
     }
+}
+
+fn tell_refusal<E: Sink>(refusal: ScriptRefusal, err: &mut E) -> Result<(), Failed>
+    ensures { AddsUnlessFailed E.tells (E.state err.old) (E.state err.new) (refusal_line refusal) }
+{
+    match refusal {
+        ScriptRefusal::Parse { kind, place } => {
+            tell_fault(b"parsl: script: parse ", kind, place, err)
+        }
+        ScriptRefusal::Check { kind, place } => {
+            tell_fault(b"parsl: script: check ", kind, place, err)
+        }
+        ScriptRefusal::NotYet => write_whole(err, b"parsl: script: not yet\n"),
+    }
+}
+
+// The kind and the place of a fault, behind what names it.
+fn tell_fault<E: Sink>(front: &[u8], kind: u8, place: u32, err: &mut E) -> Result<(), Failed>
+    ensures { AddsUnlessFailed E.tells (E.state err.old) (E.state err.new) (fault_line front.now kind place) }
+{
+    write_numbered(err, front, u32::from(kind))?;
+    write_numbered(err, b" at ", place)?;
+    write_whole(err, b"\n")
+}
+
+// A text with a number behind it.
+fn write_numbered<E: Sink>(err: &mut E, front: &[u8], number: u32) -> Result<(), Failed>
+    ensures line { AddsUnlessFailed E.tells (E.state err.old) (E.state err.new) (front.now ++ decimal number) }
+    ensures cause { HasCause (E.state err.old).faults (E.state err.new).faults result }
+{
+    let mut buffer = Buffer::new();
+    let digits = buffer.format(number);
+    write_whole(err, front)?;
+    write_whole(err, digits.as_bytes())
 }
 
 fn tell_unread<E: Sink>(name: &str, err: &mut E) -> Result<(), Failed>

@@ -4,8 +4,11 @@
 pub mod ending;
 mod output;
 pub mod run;
+pub mod script;
 mod top;
-mod words;
+pub mod words;
 
 pub use run::{PartEnd, RunEnd, run_alone, run_attempt};
-pub use top::parsl_top;
+pub use script::{ScriptFault, ScriptRefusal};
+pub use top::{parsl_top, plain_top, run_top};
+pub use words::{Command, Order};

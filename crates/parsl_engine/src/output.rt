@@ -1,55 +1,45 @@
-//! What a run of a script prints.
+//! What a command prints for a script.
 
 ghost use Rattle.std.specs.Prelude.{◌≡◌};
 ghost use Rattle.std.specs.List.{list_all};
-ghost use Rattle.parsl_engine.specs.Output.{Produces, Tells, has_value as is_valued};
+ghost use Rattle.parsl_engine.specs.Scripts.{IsOfText};
+ghost use Rattle.parsl_engine.specs.Output.{Produces, Gives, Tells, has_value as is_valued};
+ghost use Rattle.parsl_engine.specs.declared.words.Command.TheVariants.{Run};
 
 use crate::run::{PartEnd, RunEnd, run_alone};
-use app_script::parse::{ParseFault, parse};
+use crate::script::{ScriptFault, ScriptRefusal, is_small, read_script};
+use crate::words::Command;
 use flow_base::{Outcome, TaskEnd};
 use kernel_core::{Ledger, Opening};
 use run_report::report;
-use std::alloc::{AllocError, Global};
+use script_print::print;
+use script_tree::checked::Checked;
+use std::alloc::Global;
 use std::sync::Arc;
 
-/// Why a script has no output.
-#[derive(Clone, Copy, Debug, PartialEq, Eq)]
-pub enum ScriptFault {
-    /// It is no small script, or a sum leaves 64 bits.
-    NotYet,
-    NoMemory,
-}
-
-impl From<AllocError> for ScriptFault {
-    ghost use Rattle.std.specs.Prelude.{◌≡◌};
-    ghost use Rattle.parsl_engine.specs.declared.output.ScriptFault.TheVariants.{NoMemory};
-
-    ghost from_gives = { λ _ fault. fault ≡ NoMemory };
-
-    fn from(_: AllocError) -> ScriptFault {
-        ScriptFault::NoMemory
-    }
-}
-
-impl From<ParseFault> for ScriptFault {
-    ghost use Rattle.std.specs.Prelude.{◌≡◌};
-    ghost use Rattle.parsl_engine.specs.Faults.{fault_of};
-
-    ghost from_gives = { λ fault given. given ≡ fault_of fault };
-
-    fn from(fault: ParseFault) -> ScriptFault {
-        match fault {
-            ParseFault::NotYet => ScriptFault::NotYet,
-            ParseFault::NoMemory => ScriptFault::NoMemory,
+/// The output of a command for the script that has this text.
+pub fn output(alloc: Global, command: Command, bytes: &[u8]) -> Result<Vec<u8>, ScriptFault>
+    ensures { Produces command bytes.now result }
+{
+    let script = read_script(alloc, bytes)?;
+    match command {
+        Command::Run => run_output(alloc, script),
+        Command::Check => Ok(Vec::from_slice(alloc, b"ok\n")?),
+        Command::Format => {
+            let tree = script.script();
+            Ok(print(alloc, tree.apps(), tree.main())?)
         }
     }
 }
 
-/// The report of a run of the script that has this text.
-pub fn output(alloc: Global, bytes: &[u8]) -> Result<Vec<u8>, ScriptFault>
-    ensures { Produces bytes.now result }
+// The report of a run of the script.
+fn run_output(alloc: Global, script: Checked) -> Result<Vec<u8>, ScriptFault>
+    requires { IsOfText script }
+    ensures { Gives Run script result }
 {
-    let script = parse(alloc, bytes)?;
+    if !is_small(alloc, &script)? {
+        return Err(ScriptFault::Refused(ScriptRefusal::NotYet));
+    }
     let Ok(script) = Arc::new(alloc, script) else {
         return Err(ScriptFault::NoMemory);
     };
@@ -65,7 +55,7 @@ fn whole_report(alloc: Global, run: &RunEnd) -> Result<Vec<u8>, ScriptFault>
         return Err(ScriptFault::NoMemory);
     };
     if !have_values(evaluation.tasks.as_slice()) {
-        return Err(ScriptFault::NotYet);
+        return Err(ScriptFault::Refused(ScriptRefusal::NotYet));
     }
     Ok(report(alloc, evaluation, run.history.as_slice())?)
 }

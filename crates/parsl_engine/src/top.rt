@@ -1,52 +1,80 @@
-//! The top call.
+//! The top calls.
 
-ghost use Rattle.std.specs.Prelude.{◌≡◌, None, IfSome};
-ghost use Rattle.parsl_engine.specs.Course.{Printed, Answers, Tells, Course, NoReading, NamesAlone, status_of};
-ghost use Rattle.parsl_engine.specs.Words.{script_word};
+ghost use Rattle.std.specs.Prelude.{◌≡◌, None, IfSome, true};
+ghost use Rattle.parsl_engine.specs.Course.{Printed, Course, Carries, NoReading};
+ghost use Rattle.parsl_engine.specs.Words.{meaning, is_plain};
+ghost use Rattle.parsl_engine.specs.declared.words.Command.TheVariants.{Run};
 
 use crate::ending::Ending;
-use crate::output::{ScriptFault, output};
-use crate::words::script_named;
-use flow_base::{Shelf, ShelfFault, Sink, Word, Words, write_whole};
+use crate::output::output;
+use crate::words::{Command, Order, read_words};
+use flow_base::{Shelf, ShelfFault, Sink, Words, write_whole};
 use std::alloc::Global;
 
 /// The longest script, and one byte more.
 const READ_LIMIT: u64 = 1_048_577;
 
-/// Prints the output of the script that has this text.
-fn print<'a, O: Sink>(alloc: Global, bytes: &[u8], out: &mut O) -> Ending<'a>
-    ensures { Printed bytes.now result O.tells (O.state out.old) (O.state out.new) }
+/// The exit status where the words mean nothing.
+const WORDS_REFUSED: u8 = 2;
+
+/// Prints the output of a command for the script that has this text.
+fn print<O: Sink>(alloc: Global, command: Command, bytes: &[u8], out: &mut O) -> Ending
+    ensures { Printed command bytes.now result O.tells (O.state out.old) (O.state out.new) }
 {
-    match output(alloc, bytes) {
+    match output(alloc, command, bytes) {
         Ok(text) => match write_whole(out, &text) {
             Ok(()) => Ending::Done,
             Err(_) => Ending::Unwritten,
         },
-        Err(ScriptFault::NotYet) => Ending::NotYet,
-        Err(ScriptFault::NoMemory) => Ending::NoMemory,
+        Err(fault) => Ending::from(fault),
     }
 }
 
-/// Reads the script of this name, runs it, and prints its report.
-fn read_and_print<'a, S: Shelf, O: Sink>(
-    alloc: Global,
-    name: &'a Word,
-    shelf: &mut S,
-    out: &mut O,
-) -> Ending<'a>
-    ensures course { Course name.now (status_of result) S.tells O.tells (S.state shelf.old) (S.state shelf.new) (O.state out.old) (O.state out.new) }
-    ensures names { NamesAlone name.now result }
+/// Reads the script of an order, and prints the command's output for it.
+fn carry_out<S: Shelf, O: Sink>(alloc: Global, order: Order, shelf: &mut S, out: &mut O) -> Ending
+    ensures { Course order.entry.command order.entry.script.now result S.tells O.tells (S.state shelf.old) (S.state shelf.new) (O.state out.old) (O.state out.new) }
 {
-    match shelf.read(name.as_str(), READ_LIMIT) {
-        Ok(bytes) => print(alloc, &bytes, out),
-        Err(ShelfFault::Failed) => Ending::Unread(name),
+    match shelf.read(order.script.as_str(), READ_LIMIT) {
+        Ok(bytes) => print(alloc, order.command, &bytes, out),
+        Err(ShelfFault::Failed) => Ending::Unread,
         Err(ShelfFault::NoMemory) => Ending::NoMemory,
     }
 }
 
+/// Carries out an order to run a script, and gives the exit status: 0 done, 3 a script that is
+/// refused, 6 a script that wasn't read, 7 a report that wasn't written, 12 want of memory. Each but
+/// 0 has a line on `err`.
+pub fn run_top<S: Shelf, O: Sink, E: Sink>(
+    alloc: Global,
+    order: Order,
+    shelf: &mut S,
+    out: &mut O,
+    err: &mut E,
+) -> u8
+    requires { order.command ≡ Run }
+    ensures { Carries (order.entry.command, order.entry.script.now) result S.tells O.tells E.tells (S.state shelf.old) (S.state shelf.new) (O.state out.old) (O.state out.new) (E.state err.old) (E.state err.new) }
+{
+    carry_out(alloc, order, shelf, out).finish(order.script, err)
+}
+
+/// Carries out an order of a command that waits for nobody, and returns the exit status: 0 done, 3 a
+/// script that is refused, 6 a script that wasn't read, 7 an output that wasn't written, 12 want of
+/// memory. Each but 0 has a line on `err`.
+pub fn plain_top<S: Shelf, O: Sink, E: Sink>(
+    alloc: Global,
+    order: Order,
+    shelf: &mut S,
+    out: &mut O,
+    err: &mut E,
+) -> u8
+    requires { is_plain order.command ≡ true }
+    ensures { Carries (order.entry.command, order.entry.script.now) result S.tells O.tells E.tells (S.state shelf.old) (S.state shelf.new) (O.state out.old) (O.state out.new) (E.state err.old) (E.state err.new) }
+{
+    carry_out(alloc, order, shelf, out).finish(order.script, err)
+}
+
 /// Carries out what the words of a command line mean, without the program's name, and gives the exit
-/// status: 0 done, 2 words without a meaning, 3 a script that isn't built, 6 a script that wasn't
-/// read, 7 a report that wasn't written, 12 want of memory. Each but 0 has a line on `err`.
+/// status: 2 words without a meaning, or else that of the order.
 pub fn parsl_top<S: Shelf, O: Sink, E: Sink>(
     alloc: Global,
     words: &Words,
@@ -54,13 +82,16 @@ pub fn parsl_top<S: Shelf, O: Sink, E: Sink>(
     out: &mut O,
     err: &mut E,
 ) -> u8
-    ensures words { result ≡ 2 → script_word words.now ≡ None }
-    ensures no_reading { script_word words.now ≡ None → NoReading result E.tells (S.state shelf.old) (S.state shelf.new) (O.state out.old) (O.state out.new) (E.state err.old) (E.state err.new) }
-    ensures course { IfSome (script_word words.now) (λ name. Course name result S.tells O.tells (S.state shelf.old) (S.state shelf.new) (O.state out.old) (O.state out.new)) }
-    ensures line { IfSome (script_word words.now) (λ name. Tells name result E.tells (E.state err.old) (E.state err.new)) }
+    ensures words { result ≡ 2 → meaning words.now ≡ None }
+    ensures no_reading { meaning words.now ≡ None → NoReading result E.tells (S.state shelf.old) (S.state shelf.new) (O.state out.old) (O.state out.new) (E.state err.old) (E.state err.new) }
+    ensures carries { IfSome (meaning words.now) (λ m. Carries m result S.tells O.tells E.tells (S.state shelf.old) (S.state shelf.new) (O.state out.old) (O.state out.new) (E.state err.old) (E.state err.new)) }
 {
-    match script_named(words) {
-        Some(name) => read_and_print(alloc, name, shelf, out).finish(err),
-        None => Ending::Words.finish(err),
+    let Some(order) = read_words(words) else {
+        let _ = write_whole(err, b"parsl: words\n");
+        return WORDS_REFUSED;
+    };
+    match order.command {
+        Command::Run => run_top(alloc, order, shelf, out, err),
+        Command::Check | Command::Format => plain_top(alloc, order, shelf, out, err),
     }
 }

@@ -1,7 +1,7 @@
-//! The program: `parsl_program run SCRIPT`.
+//! The program: `parsl_program run SCRIPT`, `check SCRIPT` or `format SCRIPT`.
 #![tactic(auto)]
 
-use flow_base::{HostShelf, HostSink, Word, Words};
+use flow_base::{HostShelf, HostSink, Word, Words, write_whole};
 use parsl_engine::ending::Ending;
 use parsl_engine::parsl_top;
 use std::env;
@@ -22,14 +22,15 @@ fn main(rt: HostRuntime) -> ExitCode {
     let alloc = rt.alloc();
     let mut out = HostSink::new(rt.stdout());
     let mut err = HostSink::new(rt.stderr());
-    let status = match command_words(&rt) {
-        Ok(words) => {
-            let mut shelf = HostShelf::new(alloc, rt);
-            parsl_top(alloc, &words, &mut shelf, &mut out, &mut err)
+    let words = match command_words(&rt) {
+        Ok(words) => words,
+        Err(error) if error.kind() == ErrorKind::OutOfMemory => {
+            let _ = write_whole(&mut err, b"parsl: memory\n");
+            return ExitCode::from(Ending::NoMemory.status());
         }
-        Err(error) if error.kind() == ErrorKind::OutOfMemory => Ending::NoMemory.finish(&mut err),
-        // A word that isn't UTF-8.
-        Err(_) => Ending::Words.finish(&mut err),
+        // A word that isn't UTF-8: no words mean nothing either.
+        Err(_) => Words::new(alloc),
     };
-    ExitCode::from(status)
+    let mut shelf = HostShelf::new(alloc, rt);
+    ExitCode::from(parsl_top(alloc, &words, &mut shelf, &mut out, &mut err))
 }

@@ -1,5 +1,9 @@
-//! Tests of whole runs over a shelf and sinks in memory.
+//! Tests of whole calls over a shelf and sinks in memory.
 #![tactic(auto)]
 
 #[cfg(test)]
-mod tests;
+mod calls;
+#[cfg(test)]
+mod runs;
+#[cfg(test)]
+mod scripts;

@@ -1,7 +1,7 @@
 //! Whole runs, from words and a script's bytes to a status, the output and the line on err.
 
-use flow_base::{Exception, MemShelf, MemSink, Text, Word, Words};
-use parsl_engine::parsl_top;
+use crate::calls::call;
+use flow_base::{Exception, Text};
 use std::alloc::{AllocError, Global};
 use std::test::Fail;
 
@@ -22,44 +22,16 @@ const OVERFLOW: &[u8] =
 
 const NOT_YET: &[u8] = b"parsl: script: not yet\n";
 
-fn words_of(alloc: Global, words: &[&str]) -> Result<Words, AllocError> {
-    let mut all = Words::new(alloc);
-    for word in words {
-        all.push(Word::of(alloc, word)?)?;
-    }
-    Ok(all)
-}
-
-// What a run answers: its status, what it printed and what it wrote to err.
-#[derive(Drop)]
-struct Answer {
-    status: u8,
-    out: MemSink,
-    err: MemSink,
-}
-
-// A run where the shelf has the script under the name `s`.
-fn run(alloc: Global, words: &[&str], script: &[u8], room: u64) -> Result<Answer, AllocError> {
-    let words = words_of(alloc, words)?;
-    let mut shelf = MemShelf::new(alloc);
-    shelf.put("s", script)?;
-    let mut out = MemSink::with_room(alloc, room)?;
-    let mut err = MemSink::with_room(alloc, 100)?;
-    let status = parsl_top(alloc, &words, &mut shelf, &mut out, &mut err);
-    Ok(Answer { status, out, err })
-}
-
 #[test]
 fn a_small_script_is_run_or_refused(rt: HostRuntime) -> Result<(), Fail> {
     for (script, status, out, err) in [
         (SUM, 0, SUM_OUT, b"".as_slice()),
         (DIAMOND, 0, DIAMOND_OUT, b"".as_slice()),
         (b"main { }", 0, b"main ended\nlog 1\nend\n", b"".as_slice()),
-        (b"", 3, b"", NOT_YET),
         (b"main { print 1; }", 3, b"", NOT_YET),
         (OVERFLOW, 3, b"", NOT_YET),
     ] {
-        let answer = run(rt.alloc(), &["run", "s"], script, 1000)?;
+        let answer = call(rt.alloc(), &["run", "s"], script, 1000)?;
         assert_eq!(rt; answer.status, status, "{script:?}");
         assert_eq!(rt; answer.out.bytes(), out, "{script:?}");
         assert_eq!(rt; answer.err.bytes(), err, "{script:?}");
@@ -73,6 +45,9 @@ fn words_are_read_or_refused(rt: HostRuntime) -> Result<(), Fail> {
         (["run", "s"].as_slice(), 0, b"".as_slice()),
         (["run", "t"].as_slice(), 6, b"parsl: read: t\n"),
         (["run", "-"].as_slice(), 6, b"parsl: read: -\n"),
+        (["check", "t"].as_slice(), 6, b"parsl: read: t\n"),
+        (["format", "t"].as_slice(), 6, b"parsl: read: t\n"),
+        (["check", "-s"].as_slice(), 2, b"parsl: words\n"),
         (["run", "-s"].as_slice(), 2, b"parsl: words\n"),
         (["run", ""].as_slice(), 2, b"parsl: words\n"),
         (["runs", "s"].as_slice(), 2, b"parsl: words\n"),
@@ -80,7 +55,7 @@ fn words_are_read_or_refused(rt: HostRuntime) -> Result<(), Fail> {
         (["run"].as_slice(), 2, b"parsl: words\n"),
         ([].as_slice(), 2, b"parsl: words\n"),
     ] {
-        let answer = run(rt.alloc(), words, b"main { }", 1000)?;
+        let answer = call(rt.alloc(), words, b"main { }", 1000)?;
         assert_eq!(rt; answer.status, status, "{words:?}");
         assert_eq!(rt; answer.err.bytes(), err, "{words:?}");
     }
@@ -90,7 +65,7 @@ fn words_are_read_or_refused(rt: HostRuntime) -> Result<(), Fail> {
 #[test]
 fn a_sink_without_room_has_the_first_bytes(rt: HostRuntime) -> Result<(), Fail> {
     for (room, out) in [(0, b"".as_slice()), (10, b"print 13\nt")] {
-        let answer = run(rt.alloc(), &["run", "s"], SUM, room)?;
+        let answer = call(rt.alloc(), &["run", "s"], SUM, room)?;
         assert_eq!(rt; answer.status, 7);
         assert_eq!(rt; answer.out.bytes(), out);
         assert_eq!(rt; answer.err.bytes(), b"parsl: write\n".as_slice());

@@ -1,0 +1,115 @@
+-- A script's bytes have one refusal, or an output.
+use Rattle.std.proofs.Common.{◌≡◌, ◌⊎◌, inl, inr, ℕ, suc, ◌<◌, ◌≤◌, List, [], ◌∷◌, ◌++◌, map, get_or, refl, sym, ◌∙◌, subst, arith}
+use Rattle.std.specs.Prelude.{Contains}
+use Rattle.script_tree.specs.declared.tree.AppDef.{AppDef}
+use Rattle.script_tree.specs.Grammar.{Tree, PlacedTree}
+use Rattle.script_tree.specs.Marks.{Marks, script}
+use Rattle.script_tree.specs.Rules.{State, OfMain, faults, faults_at, faults_from, behind, IsWellFormed, IsCheckFault}
+use Rattle.parsl_engine.specs.declared.words.Command.{Command}
+use Rattle.parsl_engine.specs.declared.words.Command.TheVariants as command
+use Rattle.parsl_engine.specs.declared.script.ScriptRefusal.{ScriptRefusal}
+use Rattle.parsl_engine.specs.declared.script.ScriptRefusal.TheVariants.{Parse, Check, NotYet}
+use Rattle.parsl_engine.specs.Scripts.{IsCheckedText, BreaksRule, IsFaulty}
+use Rattle.parsl_engine.specs.Output.{CanRun, Prints, IsNotYet, Refuses}
+
+-- ---- a script that breaks no rule has no fault, wherever its tokens stand
+
+abbrev placed : ℕ → List ℕ → List (ℕ × ℕ)
+placed at = map (λ kind. (at, kind))
+
+none_here : (at to : ℕ) (kinds : List ℕ) (fs gs : List (ℕ × ℕ)) → placed at kinds ++ fs ≡ [] → (fs ≡ [] → gs ≡ []) → placed to kinds ++ gs ≡ []
+none_here at to [] fs gs e h = h e
+none_here at to (kind ∷ kinds) fs gs e h = absurd (cc)
+
+none_anywhere : (apps : List AppDef) (places others : List ℕ) (k n : ℕ) (s : State) (ms : Marks) → faults_from apps places k s ms ≡ [] → faults_from apps others n s ms ≡ []
+none_anywhere apps places others k n s [] e = refl
+none_anywhere apps places others k n s (m ∷ ms) e = none_here (get_or places k 0) (get_or others n 0) (faults_at apps s m) _ _ e (none_anywhere apps places others (suc k) (suc n) (behind m s) ms)
+
+faults_are : (tree : Tree) (places : List ℕ) → faults tree places ≡ faults_from tree.0 places 0 (record { scopes = []; body = OfMain }) (script tree)
+unfolding faults
+faults_are tree places = refl
+
+no_faults : (tree : Tree) (places : List ℕ) → IsWellFormed tree → faults tree places ≡ []
+no_faults tree places right = faults_are tree places ∙ none_anywhere tree.0 [] places 0 0 (record { scopes = []; body = OfMain }) (script tree) (sym (faults_are tree []) ∙ right)
+
+well_formed-faultless : (tree : Tree) (places : List ℕ) (kind place : ℕ) → IsWellFormed tree → IsCheckFault tree places kind place → ⊥
+well_formed-faultless tree places kind place right fault =
+    let none : Contains [] (place, kind) = subst (λ (l : List (ℕ × ℕ)). Contains l (place, kind)) (no_faults tree places right) fault.0 in
+    omega (arith, none.1)
+
+-- ---- a script has one least fault
+
+one_least : (kind place other at : ℕ) → (place < at) ⊎ ((place ≡ at) × (kind ≤ other)) → (at < place) ⊎ ((at ≡ place) × (other ≤ kind)) → (other ≡ kind) × (at ≡ place)
+one_least kind place other at (inl a) (inl b) = absurd (omega (arith, a, b))
+one_least kind place other at (inl a) (inr b) = absurd (omega (arith, a, b.0))
+one_least kind place other at (inr a) (inl b) = absurd (omega (arith, a.0, b))
+one_least kind place other at (inr a) (inr b) = (omega (arith, a.1, b.1), sym a.0)
+
+one_check : (s : PlacedTree) (kind place other at : ℕ) → IsCheckFault s.tree s.places kind place → IsCheckFault s.tree s.places other at → (other ≡ kind) × (at ≡ place)
+one_check s kind place other at a b = one_least kind place other at (a.1 other at b.0) (b.1 kind place a.0)
+
+-- ---- one refusal
+
+same_check : (kind place other at : ℕ) → (other ≡ kind) × (at ≡ place) → Check other at ≡ Check kind place
+same_check kind place other at h = rw (h.0, h.1) refl
+
+same_parse : (kind place other at : ℕ) → (other ≡ kind) × (at ≡ place) → Parse other at ≡ Parse kind place
+same_parse kind place other at h = rw (h.0, h.1) refl
+
+fault_of : (bytes : List ℕ) (s : PlacedTree) (kind place : ℕ) (b : BreaksRule bytes kind place) → b.script ≡ s → IsCheckFault s.tree s.places kind place
+fault_of bytes s kind place b is = subst (λ (p : PlacedTree). IsCheckFault p.tree p.places kind place) is b.fault
+
+one_fault : (bytes : List ℕ) (a b : ScriptRefusal) → IsFaulty bytes a → IsFaulty bytes b → b ≡ a
+one_fault bytes (Parse kind place) (Parse other at) p q = same_parse kind place other at (p.only other at q.fault)
+one_fault bytes (Parse kind place) (Check other at) p q = absurd (p.none q.script q.text.has)
+one_fault bytes (Check kind place) (Parse other at) p q = absurd (q.none p.script p.text.has)
+one_fault bytes (Check kind place) (Check other at) p q = same_check kind place other at (one_check p.script kind place other at p.fault (fault_of bytes p.script other at q (p.text.only q.script q.text.has)))
+one_fault bytes NotYet b p q = absurd p
+one_fault bytes (Parse kind place) NotYet p q = absurd q
+one_fault bytes (Check kind place) NotYet p q = absurd q
+
+-- a text of a script that breaks no rule has no fault
+right_faultless : (bytes : List ℕ) (s : PlacedTree) (r : ScriptRefusal) → IsCheckedText bytes s → IsFaulty bytes r → ⊥
+right_faultless bytes s (Parse kind place) t f = f.none s t.text.has
+right_faultless bytes s (Check kind place) t f = well_formed-faultless s.tree s.places kind place t.well_formed (fault_of bytes s kind place f (t.text.only f.script f.text.has))
+right_faultless bytes s NotYet t f = f
+
+-- the cause of a refusal, whichever the command
+abbrev Cause : List ℕ → ScriptRefusal → Type 0
+Cause bytes r = IsFaulty bytes r ⊎ ((r ≡ NotYet) × IsNotYet bytes)
+
+cause : (c : Command) (bytes : List ℕ) (r : ScriptRefusal) → Refuses c bytes r → Cause bytes r
+cause command.Run bytes (Parse kind place) h = inl h
+cause command.Run bytes (Check kind place) h = inl h
+cause command.Run bytes NotYet h = inr (refl, h)
+cause command.Check bytes (Parse kind place) h = inl h
+cause command.Check bytes (Check kind place) h = inl h
+cause command.Check bytes NotYet h = absurd h
+cause command.Format bytes (Parse kind place) h = inl h
+cause command.Format bytes (Check kind place) h = inl h
+cause command.Format bytes NotYet h = absurd h
+
+one_cause : (bytes : List ℕ) (a b : ScriptRefusal) → Cause bytes a → Cause bytes b → b ≡ a
+one_cause bytes a b (inl p) (inl q) = one_fault bytes a b p q
+one_cause bytes a b (inl p) (inr q) = absurd (right_faultless bytes q.1.script a q.1.text p)
+one_cause bytes a b (inr p) (inl q) = absurd (right_faultless bytes p.1.script b p.1.text q)
+one_cause bytes a b (inr p) (inr q) = q.0 ∙ sym p.0
+
+pub one_refusal : (c : Command) (bytes : List ℕ) (a b : ScriptRefusal) → Refuses c bytes a → Refuses c bytes b → b ≡ a
+one_refusal c bytes a b p q = one_cause bytes a b (cause c bytes a p) (cause c bytes b q)
+
+-- ---- what has an output isn't refused
+
+same_script : (bytes : List ℕ) (s t : PlacedTree) → IsCheckedText bytes s → IsCheckedText bytes t → s ≡ t
+same_script bytes s t a b = b.text.only s a.text.has
+
+pub not_refused : (c : Command) (bytes output : List ℕ) (r : ScriptRefusal) → Prints c bytes output → Refuses c bytes r → ⊥
+not_refused command.Run bytes output NotYet p n = n.cannot_run (subst CanRun (same_script bytes p.script n.script p.text n.text) p.prints.can_run)
+not_refused command.Run bytes output (Parse kind place) p h = right_faultless bytes p.script (Parse kind place) p.text h
+not_refused command.Run bytes output (Check kind place) p h = right_faultless bytes p.script (Check kind place) p.text h
+not_refused command.Check bytes output NotYet p h = h
+not_refused command.Check bytes output (Parse kind place) p h = right_faultless bytes p.script (Parse kind place) p.text h
+not_refused command.Check bytes output (Check kind place) p h = right_faultless bytes p.script (Check kind place) p.text h
+not_refused command.Format bytes output NotYet p h = h
+not_refused command.Format bytes output (Parse kind place) p h = right_faultless bytes p.script (Parse kind place) p.text h
+not_refused command.Format bytes output (Check kind place) p h = right_faultless bytes p.script (Check kind place) p.text h

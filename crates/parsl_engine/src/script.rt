@@ -1,0 +1,68 @@
+//! Scripts that are read and checked.
+
+ghost use Rattle.std.specs.Prelude.{◌≡◌, ◌↔◌, IfOk, true};
+ghost use Rattle.script_tree.specs.Small.{IsSmall};
+ghost use Rattle.parsl_engine.specs.Scripts.{IsRead};
+
+use app_check::{CheckFault, check};
+use app_script::parse::{ParseFault, parse};
+use script_tree::checked::Checked;
+use small_scripts::small_script;
+use std::alloc::{AllocError, Global};
+
+/// Why a command does nothing for a script.
+#[derive(Clone, Copy, Debug, PartialEq, Eq)]
+pub enum ScriptRefusal {
+    /// The text is no script: the kind of its fault, and its place in bytes from 0.
+    Parse { kind: u8, place: u32 },
+    /// The script breaks the rule of this kind at this place.
+    Check { kind: u8, place: u32 },
+    /// The script can't be run yet.
+    NotYet,
+}
+
+/// Why a command has no output.
+#[derive(Clone, Copy, Debug, PartialEq, Eq)]
+pub enum ScriptFault {
+    Refused(ScriptRefusal),
+    NoMemory,
+}
+
+impl From<AllocError> for ScriptFault {
+    ghost use Rattle.std.specs.Prelude.{◌≡◌};
+    ghost use Rattle.parsl_engine.specs.declared.script.ScriptFault.TheVariants.{NoMemory};
+
+    ghost from_gives = { λ _ fault. fault ≡ NoMemory };
+
+    fn from(_: AllocError) -> ScriptFault {
+        ScriptFault::NoMemory
+    }
+}
+
+/// The script of a text that breaks no rule.
+pub fn read_script(alloc: Global, bytes: &[u8]) -> Result<Checked, ScriptFault>
+    ensures { IsRead bytes.now result }
+{
+    let script = match parse(alloc, bytes) {
+        Ok(script) => script,
+        Err(ParseFault::Refused { kind, place }) => {
+            return Err(ScriptFault::Refused(ScriptRefusal::Parse { kind, place }));
+        }
+        Err(ParseFault::NoMemory) => return Err(ScriptFault::NoMemory),
+    };
+    match check(alloc, script) {
+        Ok(checked) => Ok(checked),
+        Err(CheckFault::Refused { kind, place }) => {
+            Err(ScriptFault::Refused(ScriptRefusal::Check { kind, place }))
+        }
+        Err(CheckFault::NoMemory) => Err(ScriptFault::NoMemory),
+    }
+}
+
+/// Whether it is a small script.
+pub fn is_small(alloc: Global, script: &Checked) -> Result<bool, AllocError>
+    ensures { IfOk result (λ small. (small ≡ true) ↔ IsSmall script.now.tree) }
+{
+    let tree = script.script();
+    Ok(small_script(alloc, tree.apps(), tree.main())?.is_some())
+}
