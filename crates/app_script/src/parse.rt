@@ -130,4 +130,3 @@ fn stepped(alloc: Global, state: SoFar, place: u32, token: Token) -> Result<SoFa
         }),
     }
 }
-
