@@ -24,9 +24,10 @@ fn answer(alloc: Global, text: &[u8]) -> Result<String, AllocError>
 {
     let mut lexer = Lexer::new(text);
     let mut all = String::new(alloc);
-    'tokens: loop {
+    // Each turn takes a byte at least.
+    for _ in 0..=text.len() {
         match lexer.next(alloc) {
-            Ok(None) => return Ok(all),
+            Ok(None) => break,
             Ok(Some(PlacedToken { place, token })) => {
                 let token = shown(alloc, &token)?;
                 let entry = format!(in alloc; "{place} {token}, ")?;
@@ -38,6 +39,7 @@ fn answer(alloc: Global, text: &[u8]) -> Result<String, AllocError>
             Err(LexFault::NoMemory) => return Err(AllocError),
         }
     }
+    Ok(all)
 }
 
 const LONGEST_NAME: &str =
