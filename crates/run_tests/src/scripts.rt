@@ -326,6 +326,7 @@ fn at_most_64_brackets_are_open(rt: HostRuntime) -> Result<(), Fail> {
         ("(", "1", ")", 64, 3, b"parsl: script: parse 5 at 76\n"),
         ("[", "1", "]", 64, 3, b"parsl: script: parse 5 at 76\n"),
         ("(", "1(", ")", 63, 3, b"parsl: script: parse 4 at 77\n"),
+        ("f(", "1", ")", 64, 3, b"parsl: script: parse 5 at 140\n"),
     ] {
         let script = nested(rt.alloc(), open, middle, close, depth)?;
         let answer = call(
@@ -367,6 +368,12 @@ fn a_text_has_at_most_1048576_bytes(rt: HostRuntime) -> Result<(), Fail> {
             b"parsl: script: parse 6 at 1048576\n",
         ),
         (b"$", 1_048_572, 3, b"parsl: script: parse 6 at 1048576\n"),
+        (
+            b"main {",
+            2_000_000,
+            3,
+            b"parsl: script: parse 6 at 1048576\n",
+        ),
     ] {
         let script = padded(rt.alloc(), front, b' ', blanks, b"{  }")?;
         let answer = call(rt.alloc(), &["check", "s"], script.as_slice(), 1000)?;
