@@ -1,7 +1,6 @@
 pub mod Least
 pub mod Seeing
 pub mod Keys
-pub mod Numbers
 pub mod Equations
 pub mod Atoms
 pub mod Statements

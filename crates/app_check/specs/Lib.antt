@@ -1,4 +1,3 @@
 pub mod Seeing
 pub mod Checking
 pub mod Bodies
-pub mod Numbers

@@ -10,11 +10,11 @@ ghost use Rattle.app_check.specs.Bodies.{body_seen, names_of};
 
 use crate::body::Body;
 use crate::fault::{Fault, lesser};
-use crate::firsts::Firsts;
 use crate::kinds;
 use crate::outer::Outer;
 use crate::rules::{MAX_COUNT, is_count, is_long, outputs_of, waits};
 use crate::visible::Visible;
+use app_numbers::Apps;
 use flow_base::Text;
 use script_tree::built_ins::{arity, named};
 use script_tree::tree::AppDef;
@@ -24,7 +24,7 @@ use std::marker::Model;
 /// Looks at one mark after another. Contracts see what is kept of them.
 #[derive(Drop)]
 pub struct Checker<'a> {
-    apps: Firsts<'a>,
+    apps: Apps<'a>,
     // of the tokens to come
     places: &'a [u32],
     visible: Visible<'a>,
@@ -50,7 +50,7 @@ impl<'a> Model for Checker<'a> {
 
 impl<'a> Checker<'a> {
     /// Before the first token.
-    pub fn new(alloc: Global, apps: Firsts<'a>, places: &'a [u32]) -> Checker<'a>
+    pub fn new(alloc: Global, apps: Apps<'a>, places: &'a [u32]) -> Checker<'a>
         ensures { result ≡ nothing_seen apps.entry places.now }
     {
         Checker {

@@ -6,7 +6,7 @@ ghost use Rattle.app_check.specs.Checking.{Checks, least_of};
 use crate::checker::Checker;
 use crate::definition::see_script;
 use crate::fault::Fault;
-use crate::firsts::Firsts;
+use app_numbers::Apps;
 use script_tree::checked::Checked;
 use script_tree::script::Script;
 use std::alloc::{AllocError, Global};
@@ -37,7 +37,7 @@ impl From<AllocError> for CheckFault {
 fn least_fault(alloc: Global, script: &Script) -> Result<Option<Fault>, AllocError>
     ensures { IfOk result (λ least. least ≡ least_of script.now) }
 {
-    match Firsts::of(alloc, script.apps()) {
+    match Apps::of(alloc, script.apps()) {
         Err(fault) => Err(fault),
         Ok(apps) => {
             let mut checker = Checker::new(alloc, apps, script.places());

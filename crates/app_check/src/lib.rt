@@ -7,7 +7,6 @@ pub mod checking;
 mod definition;
 mod expression;
 mod fault;
-mod firsts;
 mod kinds;
 mod outer;
 mod rules;

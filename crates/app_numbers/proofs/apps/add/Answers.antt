@@ -1,5 +1,5 @@
-use Rattle.app_check.proofs.Numbers.{again, more}
-use Rattle.app_check.proofs.firsts.add.Goals as goal
+use Rattle.app_numbers.proofs.Numbers.{again, more}
+use Rattle.app_numbers.proofs.apps.add.Goals as goal
 
 pub returns-in-Some : goal.returns-in-Some
 returns-in-Some c = λ apps is h. again apps c.args.app.now c.args.numbers.now.entries h c.in-Some.field-0.now (rw (← c.as_str.ensures) c.in-Some.ensures.value)

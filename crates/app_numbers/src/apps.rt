@@ -1,10 +1,10 @@
 //! The apps of a script by their names.
 
 ghost use Rattle.std.specs.Prelude.{◌≡◌, ◌++◌, ◌∷◌, [], List, length, take, bytes_eq, option_copied, IfOk, OnOk};
-ghost use Rattle.std.specs.List.{list_any};
+ghost use Rattle.std.specs.List.{list_any, position_or_len};
 ghost use Rattle.script_tree.specs.Rules.{app_named};
 ghost use Rattle.script_tree.specs.declared.tree.AppDef.{AppDef};
-ghost use Rattle.app_check.specs.Numbers.{AreNumbers};
+ghost use Rattle.app_numbers.specs.Numbers.{AreNumbers};
 
 use indexmap::IndexMap;
 use script_tree::tree::AppDef;
@@ -14,20 +14,20 @@ use std::marker::Model;
 
 /// Apps, found by their names. Contracts see the list of them.
 #[derive(Drop)]
-pub struct Firsts<'a> {
+pub struct Apps<'a> {
     apps: &'a [AppDef],
     // for each name the number of its first app
     numbers: IndexMap<&'a str, usize>,
 }
 
-impl<'a> Model for Firsts<'a> {
+impl<'a> Model for Apps<'a> {
     ghost use Rattle.std.specs.Prelude.{List};
     ghost use Rattle.std.specs.Coded.{codes};
     ghost use Rattle.script_tree.specs.contracts.tree.Statement as statement;
     ghost use Rattle.script_tree.specs.contracts.tree.Expr as expr;
     ghost use Rattle.script_tree.specs.contracts.tree.CallExpr as call;
     ghost use Rattle.script_tree.specs.declared.tree.AppDef.{AppDef as App};
-    ghost use Rattle.app_check.specs.Numbers.{AreNumbers};
+    ghost use Rattle.app_numbers.specs.Numbers.{AreNumbers};
 
     ghost Value = { List App };
 
@@ -38,12 +38,12 @@ impl<'a> Model for Firsts<'a> {
     ghost invariant = { λ f. AreNumbers f.apps.now f.numbers.entries };
 }
 
-impl<'a> Firsts<'a> {
-    pub fn of(alloc: Global, apps: &'a [AppDef]) -> Result<Firsts<'a>, AllocError>
+impl<'a> Apps<'a> {
+    pub fn of(alloc: Global, apps: &'a [AppDef]) -> Result<Apps<'a>, AllocError>
         ensures { IfOk result (λ f. f ≡ apps.now) }
     {
         match numbered(alloc, apps) {
-            Ok(numbers) => Ok(Firsts { apps, numbers }),
+            Ok(numbers) => Ok(Apps { apps, numbers }),
             Err(fault) => Err(fault),
         }
     }
@@ -55,6 +55,16 @@ impl<'a> Firsts<'a> {
         match self.numbers.get(name) {
             None => None,
             Some(number) => at(self.apps, *number),
+        }
+    }
+
+    /// The number of the first app of a name, or how many there are where there is none.
+    pub fn number_of(&self, name: &str) -> usize
+        ensures { result ≡ position_or_len (λ app. bytes_eq app.name name.now) self.now }
+    {
+        match self.numbers.get(name) {
+            None => self.apps.len(),
+            Some(number) => *number,
         }
     }
 

@@ -1,13 +1,13 @@
 -- The numbers of the first apps of each name.
-use Rattle.std.proofs.Common.{◌≡◌, ℕ, suc, zero, Bool, true, false, cond, ◌||◌, if◌then◌else◌, nat_lt, arith, List, [], ◌∷◌, ◌++◌, length, take, slice_get, Option, Some, None, bytes_eq, refl, ap, sym, subst, ◌∙◌, Bor}
-use Rattle.std.specs.List.{list_any, find}
+use Rattle.std.proofs.Common.{◌≡◌, ℕ, suc, zero, ◌+◌, Bool, true, false, cond, not, ◌||◌, if◌then◌else◌, nat_lt, arith, List, [], ◌∷◌, ◌++◌, length, take, slice_get, Option, Some, None, bytes_eq, refl, ap, sym, subst, ◌∙◌, Bor}
+use Rattle.std.specs.List.{list_any, find, position_or_len, prefix_len}
 use Rattle.std.specs.Map.{lookup}
 use Rattle.std.specs.Option.{option_map}
 use Rattle.std.proofs.lemmas.Slice.Eq.{bytes_eq-Decides}
 use Rattle.script_tree.specs.declared.tree.AppDef.{AppDef}
 use Rattle.script_tree.specs.Marks.{Name}
 use Rattle.script_tree.specs.Rules.{app_named}
-use Rattle.app_check.specs.Numbers.{first_at, AreNumbers}
+use Rattle.app_numbers.specs.Numbers.{first_at, AreNumbers}
 
 abbrev read : {X : Type 0} → List X → Option ℕ → Option X
 read xs None = None
@@ -75,12 +75,37 @@ module _ {X : Type 0} (p : X → Bool) where
 
 -- ---- look-ups
 
+abbrev or_count : ℕ → Option ℕ → ℕ
+or_count n None = n
+or_count n (Some i) = i
+
+count_later : (n : ℕ) (r : Option ℕ) → or_count (suc n) (option_map suc r) ≡ suc (or_count n r)
+count_later n None = refl
+count_later n (Some i) = refl
+
+module _ {X : Type 0} (p : X → Bool) where
+  placed_split : (b : Bool) (xs : List X) → prefix_len (λ x. not (p x)) xs ≡ or_count (length xs) (first_at p xs) → cond (not b) (1 + prefix_len (λ x. not (p x)) xs) 0 ≡ or_count (suc (length xs)) (if b then Some 0 else option_map suc (first_at p xs))
+  placed_split true xs h = refl
+  placed_split false xs h =
+      let one : 1 + prefix_len (λ x. not (p x)) xs ≡ suc (prefix_len (λ x. not (p x)) xs) = omega arith in
+      one ∙ ap suc h ∙ sym (count_later (length xs) (first_at p xs))
+
+  placed : (xs : List X) → position_or_len p xs ≡ or_count (length xs) (first_at p xs)
+  placed [] = refl
+  placed (x ∷ xs) = placed_split (p x) xs (placed xs)
+
 module _ (apps apps_now : List AppDef) (entries : List (Bor Name × ℕ)) (name : Name) (is : apps ≡ apps_now) (h : AreNumbers apps entries) where
   pub none_named : None ≡ lookup (λ key. bytes_eq name key.now) entries → None ≡ app_named apps_now name
   none_named none = rw (← is) (sym (found _ apps ∙ ap (read apps) (sym (h.at name) ∙ sym none)))
 
   pub one_named : (i : ℕ) → Some i ≡ lookup (λ key. bytes_eq name key.now) entries → slice_get apps i ≡ app_named apps_now name
   one_named i some = rw (← is) (sym (found _ apps ∙ ap (read apps) (sym (h.at name) ∙ sym some)))
+
+  pub none_placed : None ≡ lookup (λ key. bytes_eq name key.now) entries → length apps ≡ position_or_len (λ app. bytes_eq app.name name) apps_now
+  none_placed none = rw (← is) (sym (placed (λ app. bytes_eq app.name name) apps ∙ ap (or_count (length apps)) (sym (h.at name) ∙ sym none)))
+
+  pub one_placed : (i : ℕ) → Some i ≡ lookup (λ key. bytes_eq name key.now) entries → i ≡ position_or_len (λ app. bytes_eq app.name name) apps_now
+  one_placed i some = rw (← is) (sym (placed (λ app. bytes_eq app.name name) apps ∙ ap (or_count (length apps)) (sym (h.at name) ∙ sym some)))
 
   pub none_taken : (k : ℕ) → None ≡ lookup (λ key. bytes_eq name key.now) entries → false ≡ list_any (λ app. bytes_eq app.name name) (take k apps_now)
   none_taken k none = rw (← is) (sym (taken _ apps k ∙ ap (λ r. is_before r k) (sym (h.at name) ∙ sym none)))

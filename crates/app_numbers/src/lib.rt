@@ -1,0 +1,6 @@
+//! The apps of a script by their names.
+#![tactic(auto)]
+
+mod apps;
+
+pub use apps::Apps;
