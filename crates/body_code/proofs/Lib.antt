@@ -1,0 +1,14 @@
+pub mod Acts
+pub mod Agreeing
+pub mod Appending
+pub mod Arguments
+pub mod Codes
+pub mod Following
+pub mod Keys
+pub mod Means
+pub mod Numbers
+pub mod Programs
+pub mod Slots
+pub mod Steps
+pub mod Tables
+pub mod Trees
