@@ -1,20 +1,14 @@
 -- The equations of the folds, and of runs.
-use Rattle.script_tree.specs.declared.tree.Atom.{fold_out-Atom}
-use Rattle.script_tree.specs.declared.tree.Added.{fold_out-Added}
-use Rattle.script_tree.specs.declared.tree.CallExpr.{fold_out-CallExpr}
-use Rattle.script_tree.specs.declared.tree.Comp.{fold_out-Comp}
-use Rattle.script_tree.specs.declared.tree.Compared.{fold_out-Compared}
-use Rattle.script_tree.specs.declared.tree.Conj.{fold_out-Conj}
-use Rattle.script_tree.specs.declared.tree.Expr.{fold_out-Expr}
-use Rattle.script_tree.specs.declared.tree.Factor.{fold_out-Factor}
-use Rattle.script_tree.specs.declared.tree.Post.{fold_out-Post}
-use Rattle.script_tree.specs.declared.tree.Sum.{fold_out-Sum}
-use Rattle.script_tree.specs.declared.tree.Term.{fold_out-Term}
-use Rattle.script_tree.specs.declared.tree.Unary.{fold_out-Unary}
-use Rattle.script_tree.specs.declared.tree.Statement.{fold_out-Statement}
-use Rattle.script_tree.specs.declared.tree.Block.{fold_out-Block}
+use Rattle.body_code.specs.declared.code.Code.{fold_out-Code}
+use Rattle.body_code.specs.declared.code.Step.{fold_out-Step}
 use Rattle.flow_meaning.proofs.Run.{run-bind}
+use Rattle.app_eval.proofs.Codes.{value-Constant, value-TooLarge, value-Slot, value-List, value-One, value-Two, value-Three, value-Unknown, value-Call, value-Any, value-All, value-Compared, value-Sum, value-Product, value-At, value-Signed}
+use Rattle.app_eval.proofs.GivenRuns.{stops_then}
 
-pub ruleset expr_rules = (run-bind, fold_out-Atom, fold_out-Added, fold_out-CallExpr, fold_out-Comp, fold_out-Compared, fold_out-Conj, fold_out-Expr, fold_out-Factor, fold_out-Post, fold_out-Sum, fold_out-Term, fold_out-Unary)
+pub ruleset run_rules = (run-bind, stops_then)
 
-pub ruleset statement_rules = (run-bind, fold_out-Statement, fold_out-Block)
+pub ruleset code_rules = (run-bind, stops_then, value-Constant, value-TooLarge, value-Slot, value-List, value-One, value-Two, value-Three, value-Unknown, value-Call, value-Any, value-All, value-Compared, value-Sum, value-Product, value-At, value-Signed)
+
+pub ruleset expr_rules = (run-bind, fold_out-Code)
+
+pub ruleset step_rules = (run-bind, fold_out-Step)

@@ -1,5 +1,5 @@
 -- Values that are past the limits.
-use Rattle.std.proofs.Common.{◌≡◌, ℤ, ◌+◌, ◌<◌, List, Bool, false, length, map, sum, refl, arith}
+use Rattle.std.proofs.Common.{◌≡◌, ℤ, ◌+◌, ◌<◌, List, false, length, map, sum, refl, arith}
 use Rattle.std.proofs.lemmas.Bool.Decides.{nat_tests}
 use Rattle.std.specs.Prelude.{nat_le}
 use Rattle.flow_base.specs.declared.value.Value.{Value, fold-roll-Value}

@@ -1,8 +1,12 @@
-pub mod Classes
+pub mod Chains
 pub mod Does
-pub mod Ends
 pub mod Gives
+pub mod Gots
+pub mod Halts
 pub mod Joins
+pub mod Measures
 pub mod Numbers
 pub mod Splits
 pub mod Waits
+pub mod Runnings
+pub mod Walks

@@ -1,101 +1,211 @@
 //! What the statements of a body do.
 
-ghost use Rattle.std.specs.Prelude.{◌≡◌, ◌<◌, ◌≤◌, ◌^◌, map, length, OnOk};
+ghost use Rattle.std.specs.Prelude.{◌≡◌, ◌<◌, ◌≤◌, ◌-◌, None, Some, true, drop, length, OnOk, Ok};
+ghost use Rattle.body_code.specs.declared.code.Code.{Code as CodeOf};
+ghost use Rattle.body_code.specs.declared.code.Step.TheVariants as step;
+ghost use Rattle.body_code.specs.declared.code.Step.{out-Step};
+ghost use Rattle.body_code.specs.Meaning.{Store, code_value, each_turn, item_turn, one_turn, repeated, step_does, steps_do};
+ghost use Rattle.app_eval.specs.Chains.{items_of, truth_calc};
+ghost use Rattle.app_eval.specs.Does as does;
+ghost use Rattle.app_eval.specs.Does.{Reads, Runs, RunsHere, RunsTurn, flow_of, inside_does, is_simple, items_at, step_at, steps_at, store_of, turns_at};
 ghost use Rattle.app_eval.specs.Gives.{GivesRun};
 ghost use Rattle.flow_meaning.specs.Run.{run};
-ghost use Rattle.app_eval.specs.Does.{Runs, RunsTurn, Writes, checkpoints, prints, sets, state_of, statement_does, writes, writes_value};
-ghost use Rattle.flow_meaning.specs.Meaning as m;
-ghost use Rattle.flow_meaning.specs.Walk.{names_in};
 
 use crate::answers::Answers;
 use crate::expression::Scope;
-use crate::frame::{Flow, Frame, Turn};
-use crate::operators::{Stop, int_of, list_of, text_of, truth_of};
-use flow_base::{Exception, Text, Value};
-use flow_meaning::Request;
-use script_tree::tree::{AppDef, Block, CallExpr, Expr, Statement};
+use crate::frame::{Flow, Frame};
+use crate::operators::{Stop, text_of};
+use crate::place::{Halt, Inside, Place, Waiting, in_items, in_turns, otherwise_in, then_in};
+use body_code::{Code, Step};
+use flow_base::{Exception, Items, Text, Value};
+use flow_meaning::{Answer, Request};
+use sqlite_items::{Boxed, at};
 use std::alloc::Global;
 
-/// What a body runs in: the apps of the script, and the names of its outputs.
+/// What a body runs in: the names of its outputs.
 #[derive(Drop)]
 pub struct Body<'a> {
     pub alloc: Global,
-    pub apps: &'a [AppDef],
     pub names: &'a [Text],
-    ghost few: { length apps.now < 2 ^ 32 },
+}
+
+/// A turn of `while`: none where its condition is false.
+#[derive(Drop)]
+pub enum Turn {
+    Over,
+    Goes,
+    Returns(Value),
+}
+
+/// Keeps the last so many answers: those before them are used up.
+fn keep_last(told: &mut Vec<Answer>, left: usize)
+    ensures { told.new.items ≡ drop (length told.old.items - left) told.old.items }
+{
+    if left == 0 {
+        told.clear();
+        return;
+    }
+    let used = told.len().saturating_sub(left);
+    if used > 0 {
+        told.drain(..used);
+    }
 }
 
 impl Body<'_> {
-    #[tactic(auto, using(crate::proofs::Rules::statement_rules))]
-    fn value(&self, e: &Expr, frame: &Frame, answers: &mut Answers) -> Result<Value, Stop>
-        ensures { GivesRun result answers.new.left.now (run (m.value_of (names_in self.now.apps.now) e.now frame.now.vars.items) answers.old.left.now) }
+    // ---- conditions and lists
+
+    /// Whether a condition holds.
+    #[tactic(auto, using(crate::proofs::Lefts::last_left))]
+    fn holds(&self, e: &Code, frame: &Frame, told: &mut Vec<Answer>) -> Result<bool, Halt<()>>
+        ensures { Reads result told.old.items told.new.items (run (truth_calc frame.now.slots.items e.now) told.old.items) }
     {
         let scope = Scope {
             alloc: self.alloc,
-            apps: self.apps,
-            vars: frame.vars.as_slice(),
+            slots: frame.slots.as_slice(),
         };
-        scope.expr(e, answers)
+        let mut answers = Answers {
+            left: told.as_slice(),
+        };
+        match scope.holds(e, &mut answers) {
+            Ok(holds) => {
+                let left = answers.left.len();
+                keep_last(told, left);
+                Ok(holds)
+            }
+            Err(stop) => Err(Halt::of(stop)),
+        }
     }
 
-    #[tactic(auto, using(crate::proofs::Rules::statement_rules))]
-    fn call(&self, e: &CallExpr, frame: &Frame, answers: &mut Answers) -> Result<Value, Stop>
-        ensures { GivesRun result answers.new.left.now (run (m.call_value (names_in self.now.apps.now) e.now frame.now.vars.items) answers.old.left.now) }
+    /// The items of a list.
+    #[tactic(auto, using(crate::proofs::Lefts::last_left))]
+    fn list(&self, e: &Code, frame: &Frame, told: &mut Vec<Answer>) -> Result<Items, Halt<()>>
+        ensures { Reads result told.old.items told.new.items (run (items_of frame.now.slots.items e.now) told.old.items) }
     {
         let scope = Scope {
             alloc: self.alloc,
-            apps: self.apps,
-            vars: frame.vars.as_slice(),
+            slots: frame.slots.as_slice(),
         };
-        scope.call(e, answers)
+        let mut answers = Answers {
+            left: told.as_slice(),
+        };
+        match scope.list_of(e, &mut answers) {
+            Ok(items) => {
+                let left = answers.left.len();
+                keep_last(told, left);
+                Ok(items)
+            }
+            Err(stop) => Err(Halt::of(stop)),
+        }
     }
 
-    #[tactic(auto, using(crate::proofs::Rules::statement_rules))]
+    // ---- statements without blocks
+
+    #[tactic(auto, using(crate::proofs::Rules::step_rules), unfolding(body_code::specs::Meaning::step_does))]
+    fn simple(&self, step: &Step, frame: &mut Frame, answers: &mut Answers) -> Result<Flow, Stop>
+        ensures runs { is_simple (out-Step step.now) ≡ true → RunsHere result (store_of frame.old) (store_of frame.new) answers.new.left.now (run (step_does self.now.names.now step.now (store_of frame.old)) answers.old.left.now) }
+        ensures left { OnOk result (frame.new.left ≡ frame.old.left) }
+    {
+        match step {
+            Step::Set(slot, e) => self.set(*slot, e, frame, answers),
+            Step::Append(slot, e) => self.append(*slot, e, frame, answers),
+            Step::Return(e) => self.give_back(e, frame, answers),
+            Step::Raise(e) => self.raise(e, frame, answers),
+            Step::Write(output, content) => self.write(output, content, frame, answers),
+            Step::Print(e) => self.print(e, frame, answers),
+            Step::Checkpoint => self.checkpoint(answers),
+            Step::Do(e) => self.evaluate(e, frame, answers),
+            Step::While(_, _) => Ok(Flow::Goes),
+            Step::For(_, _, _) => Ok(Flow::Goes),
+            Step::If(_, _, _) => Ok(Flow::Goes),
+        }
+    }
+
+    fn value(&self, e: &Code, frame: &Frame, answers: &mut Answers) -> Result<Value, Stop>
+        ensures { GivesRun result answers.new.left.now (run (code_value frame.now.slots.items e.now) answers.old.left.now) }
+    {
+        let scope = Scope {
+            alloc: self.alloc,
+            slots: frame.slots.as_slice(),
+        };
+        scope.value(e, answers)
+    }
+
+    #[tactic(auto, using(crate::proofs::Rules::step_rules))]
     fn set(
         &self,
-        name: &Text,
-        e: &Expr,
+        slot: usize,
+        e: &Code,
         frame: &mut Frame,
         answers: &mut Answers,
     ) -> Result<Flow, Stop>
-        ensures runs { Runs result frame.new answers.new.left.now (run (sets (names_in self.now.apps.now) self.now.names.now name.now e.now (state_of frame.old)) answers.old.left.now) }
-        ensures turns { OnOk result (frame.new.left ≤ frame.old.left) }
+        ensures runs { RunsHere result (store_of frame.old) (store_of frame.new) answers.new.left.now (run (does.sets slot e.now (store_of frame.old)) answers.old.left.now) }
+        ensures left { OnOk result (frame.new.left ≡ frame.old.left) }
     {
         let value = self.value(e, frame, answers)?;
-        frame.set(self.alloc, name, value)?;
+        frame.set(slot, value);
         Ok(Flow::Goes)
     }
 
-    #[tactic(auto, using(crate::proofs::Rules::statement_rules))]
-    fn write(
+    #[tactic(auto, using(crate::proofs::Rules::step_rules))]
+    fn append(
         &self,
-        output: &Expr,
-        content: &Expr,
+        slot: usize,
+        e: &Code,
         frame: &mut Frame,
         answers: &mut Answers,
     ) -> Result<Flow, Stop>
-        ensures runs { Runs result frame.new answers.new.left.now (run (writes (names_in self.now.apps.now) self.now.names.now output.now content.now (state_of frame.old)) answers.old.left.now) }
-        ensures turns { OnOk result (frame.new.left ≤ frame.old.left) }
+        ensures runs { RunsHere result (store_of frame.old) (store_of frame.new) answers.new.left.now (run (does.appends_value slot e.now (store_of frame.old)) answers.old.left.now) }
+        ensures left { OnOk result (frame.new.left ≡ frame.old.left) }
+    {
+        frame.is_set(slot)?;
+        let item = self.value(e, frame, answers)?;
+        frame.append(slot, item)?;
+        Ok(Flow::Goes)
+    }
+
+    #[tactic(auto, using(crate::proofs::Rules::step_rules))]
+    fn give_back(&self, e: &Code, frame: &Frame, answers: &mut Answers) -> Result<Flow, Stop>
+        ensures { RunsHere result (store_of frame.now) (store_of frame.now) answers.new.left.now (run (does.gives_back e.now (store_of frame.now)) answers.old.left.now) }
+    {
+        Ok(Flow::Returns(self.value(e, frame, answers)?))
+    }
+
+    #[tactic(auto, using(crate::proofs::Rules::step_rules))]
+    fn evaluate(&self, e: &Code, frame: &Frame, answers: &mut Answers) -> Result<Flow, Stop>
+        ensures { RunsHere result (store_of frame.now) (store_of frame.now) answers.new.left.now (run (does.evaluates e.now (store_of frame.now)) answers.old.left.now) }
+    {
+        let _ = self.value(e, frame, answers)?;
+        Ok(Flow::Goes)
+    }
+
+    #[tactic(auto, using(crate::proofs::Rules::step_rules))]
+    fn raise(&self, e: &Code, frame: &Frame, answers: &mut Answers) -> Result<Flow, Stop>
+        ensures { RunsHere result (store_of frame.now) (store_of frame.now) answers.new.left.now (run (does.raises e.now (store_of frame.now)) answers.old.left.now) }
+    {
+        let text = text_of(self.value(e, frame, answers)?)?;
+        Err(Stop::Raised(Exception::AppError(text)))
+    }
+
+    #[tactic(auto, using(crate::proofs::Rules::step_rules))]
+    fn write(
+        &self,
+        output: &Code,
+        content: &Code,
+        frame: &mut Frame,
+        answers: &mut Answers,
+    ) -> Result<Flow, Stop>
+        ensures runs { RunsHere result (store_of frame.old) (store_of frame.new) answers.new.left.now (run (does.writes_value self.now.names.now output.now content.now (store_of frame.old)) answers.old.left.now) }
+        ensures left { OnOk result (frame.new.left ≡ frame.old.left) }
     {
         let output = self.value(output, frame, answers)?;
         let content = self.value(content, frame, answers)?;
-        self.write_value(output, content, frame)?;
+        frame.write(self.names, &output, content)?;
         Ok(Flow::Goes)
     }
 
-    #[tactic(auto, unfolding(flow_meaning::specs::Operators::int_of, flow_meaning::specs::Operators::text_of))]
-    fn write_value(&self, output: Value, content: Value, frame: &mut Frame) -> Result<(), Stop>
-        ensures writes { Writes result (state_of frame.old) (state_of frame.new) (writes_value (names_in self.now.apps.now) self.now.names.now output content) }
-        ensures left { frame.new.left ≡ frame.old.left }
-    {
-        let output = int_of(output)?;
-        let content = text_of(content)?;
-        frame.write(self.names, output, content)
-    }
-
-    #[tactic(auto, using(crate::proofs::Rules::statement_rules))]
-    fn print(&self, e: &Expr, frame: &Frame, answers: &mut Answers) -> Result<Flow, Stop>
-        ensures { Runs result frame.now answers.new.left.now (run (prints (names_in self.now.apps.now) self.now.names.now e.now (state_of frame.now)) answers.old.left.now) }
+    #[tactic(auto, using(crate::proofs::Rules::step_rules))]
+    fn print(&self, e: &Code, frame: &Frame, answers: &mut Answers) -> Result<Flow, Stop>
+        ensures { RunsHere result (store_of frame.now) (store_of frame.now) answers.new.left.now (run (does.prints e.now (store_of frame.now)) answers.old.left.now) }
     {
         let value = self.value(e, frame, answers)?;
         match answers.next() {
@@ -104,8 +214,8 @@ impl Body<'_> {
         }
     }
 
-    fn checkpoint(&self, frame: &Frame, answers: &mut Answers) -> Result<Flow, Stop>
-        ensures { Runs result frame.now answers.new.left.now (run (checkpoints (names_in self.now.apps.now) self.now.names.now (state_of frame.now)) answers.old.left.now) }
+    fn checkpoint(&self, answers: &mut Answers) -> Result<Flow, Stop>
+        ensures { (s : Store) → RunsHere result s s answers.new.left.now (run (does.checkpoints s) answers.old.left.now) }
     {
         match answers.next() {
             None => Err(Stop::Asks(Request::Checkpoint)),
@@ -113,172 +223,334 @@ impl Body<'_> {
         }
     }
 
-    /// What a block does, by the answers to its requests: it changes the frame, and goes on or returns.
-    #[cycle(statement)]
-    #[tactic(auto, using(crate::proofs::Rules::statement_rules), unfolding(script_tree::specs::Folds::fold_block, script_tree::specs::Folds::fold_statement))]
-    pub fn block(
+    /// A statement without blocks, with the answers that it was told.
+    #[tactic(auto, using(crate::proofs::Lefts::last_left))]
+    fn simple_step(
         &self,
-        block: &Block,
+        step: &Step,
         frame: &mut Frame,
-        answers: &mut Answers,
-    ) -> Result<Flow, Stop>
-        ensures runs { Runs result frame.new answers.new.left.now (run (m.does (names_in self.now.apps.now) self.now.names.now block.now (state_of frame.old)) answers.old.left.now) }
-        ensures turns { OnOk result (frame.new.left ≤ frame.old.left) }
+        told: &mut Vec<Answer>,
+    ) -> Result<Flow, Halt<Waiting>>
+        ensures runs { is_simple (out-Step step.now) ≡ true → Runs flow_of (step_at self.now.names.now step.now) result (store_of frame.new) told.new.items (run (step_does self.now.names.now step.now (store_of frame.old)) told.old.items) }
+        ensures left { OnOk result (frame.new.left ≡ frame.old.left) }
     {
-        self.statements(block.statements.as_slice(), frame, answers)
+        let mut answers = Answers {
+            left: told.as_slice(),
+        };
+        match self.simple(step, frame, &mut answers) {
+            Ok(flow) => {
+                let left = answers.left.len();
+                keep_last(told, left);
+                Ok(flow)
+            }
+            Err(stop) => Err(Halt::of(stop).here()),
+        }
     }
 
-    #[cycle(statement)]
-    #[tactic(auto, using(crate::proofs::Rules::statement_rules))]
-    fn statements(
+    // ---- blocks, from a place in them
+
+    /// What a block does from a place on, by the answers that its statement there was told. Where it
+    /// asks it tells the place from which it goes on, and leaves the answers of the statement there.
+    #[cycle(step)]
+    #[tactic(auto, using(crate::proofs::Rules::step_rules, crate::proofs::Insides::place_rules))]
+    pub fn steps(
         &self,
-        statements: &[Statement],
+        steps: &[Step],
+        place: Place,
         frame: &mut Frame,
-        answers: &mut Answers,
-    ) -> Result<Flow, Stop>
-        ensures runs { Runs result frame.new answers.new.left.now (run (m.sequence (map (statement_does (names_in self.now.apps.now) self.now.names.now) statements.now) (state_of frame.old)) answers.old.left.now) }
+        told: &mut Vec<Answer>,
+    ) -> Result<Flow, Halt<Place>>
+        ensures runs { Runs flow_of (λ p. steps_at self.now.names.now steps.now p.step p.inside) result (store_of frame.new) told.new.items (run (steps_at self.now.names.now steps.now place.step place.inside (store_of frame.old)) told.old.items) }
         ensures turns { OnOk result (frame.new.left ≤ frame.old.left) }
     {
-        for statement in statements {
-            match self.statement(statement, frame, answers)? {
-                Flow::Goes => {}
-                Flow::Returns(value) => return Ok(Flow::Returns(value)),
+        let Place {
+            step: number,
+            inside,
+        } = place;
+        match at(steps, number) {
+            None => Ok(Flow::Goes),
+            Some(step) => match self.step(step, inside, frame, told) {
+                Ok(Flow::Goes) => self.rest(steps, number + 1, frame, told),
+                Ok(Flow::Returns(value)) => Ok(Flow::Returns(value)),
+                Err(halt) => Err(halt.in_step(number)),
+            },
+        }
+    }
+
+    /// The statements from a number on.
+    #[cycle(step)]
+    #[tactic(auto, using(crate::proofs::Rules::step_rules, crate::proofs::Insides::place_rules))]
+    fn rest(
+        &self,
+        steps: &[Step],
+        from: usize,
+        frame: &mut Frame,
+        told: &mut Vec<Answer>,
+    ) -> Result<Flow, Halt<Place>>
+        ensures runs { Runs flow_of (λ p. steps_at self.now.names.now steps.now p.step p.inside) result (store_of frame.new) told.new.items (run (steps_do self.now.names.now (drop from steps.now) (store_of frame.old)) told.old.items) }
+        ensures turns { OnOk result (frame.new.left ≤ frame.old.left) }
+    {
+        for number in from..steps.len() {
+            match self.step(&steps[number], None, frame, told) {
+                Ok(Flow::Goes) => {}
+                Ok(Flow::Returns(value)) => return Ok(Flow::Returns(value)),
+                Err(halt) => return Err(halt.in_step(number)),
             }
         }
         Ok(Flow::Goes)
     }
 
-    #[cycle(statement)]
-    #[tactic(auto, using(crate::proofs::Rules::statement_rules), unfolding(script_tree::specs::Folds::fold_block, script_tree::specs::Folds::fold_statement, flow_meaning::specs::Operators::list_of))]
-    fn statement(
+    /// A statement, from its beginning or from inside.
+    #[cycle(step)]
+    #[tactic(auto, using(crate::proofs::Rules::step_rules, crate::proofs::Insides::place_rules))]
+    fn step(
         &self,
-        statement: &Statement,
+        step: &Step,
+        inside: Waiting,
         frame: &mut Frame,
-        answers: &mut Answers,
-    ) -> Result<Flow, Stop>
-        ensures runs { Runs result frame.new answers.new.left.now (run (statement_does (names_in self.now.apps.now) self.now.names.now statement.now (state_of frame.old)) answers.old.left.now) }
+        told: &mut Vec<Answer>,
+    ) -> Result<Flow, Halt<Waiting>>
+        ensures runs { Runs flow_of (step_at self.now.names.now step.now) result (store_of frame.new) told.new.items (run (step_at self.now.names.now step.now inside (store_of frame.old)) told.old.items) }
         ensures turns { OnOk result (frame.new.left ≤ frame.old.left) }
     {
-        match statement {
-            Statement::Let(name, e) => self.set(name, e, frame, answers),
-            Statement::Set(name, e) => self.set(name, e, frame, answers),
-            Statement::While(e, body) => self.repeat(body.get(), e, frame, answers),
-            Statement::For(name, e, body) => {
-                let items = list_of(self.value(e, frame, answers)?)?;
-                self.each(body.get(), name, items.as_slice(), frame, answers)
-            }
-            Statement::If(e, block, other) => {
-                if truth_of(self.value(e, frame, answers)?)? {
-                    return self.block(block.get(), frame, answers);
-                }
-                match other {
-                    None => Ok(Flow::Goes),
-                    Some(other) => self.block(other.get(), frame, answers),
-                }
-            }
-            Statement::Return(e) => Ok(Flow::Returns(self.value(e, frame, answers)?)),
-            Statement::Raise(e) => {
-                let text = text_of(self.value(e, frame, answers)?)?;
-                Err(Stop::Raised(Exception::AppError(text)))
-            }
-            Statement::Write(output, content) => self.write(output, content, frame, answers),
-            Statement::Print(e) => self.print(e, frame, answers),
-            Statement::Checkpoint => self.checkpoint(frame, answers),
-            Statement::Call(e) => {
-                let _ = self.call(e, frame, answers)?;
-                Ok(Flow::Goes)
-            }
+        match inside {
+            None => self.begin(step, frame, told),
+            Some(inside) => self.go_on(step, inside.into_inner(), frame, told),
         }
     }
 
-    #[cycle(statement)]
-    #[tactic(auto, using(crate::proofs::Rules::statement_rules), unfolding(flow_meaning::specs::Meaning::repeated))]
+    #[cycle(step)]
+    #[tactic(auto, using(crate::proofs::Rules::step_rules, crate::proofs::Insides::place_rules))]
+    fn begin(
+        &self,
+        step: &Step,
+        frame: &mut Frame,
+        told: &mut Vec<Answer>,
+    ) -> Result<Flow, Halt<Waiting>>
+        ensures runs { Runs flow_of (step_at self.now.names.now step.now) result (store_of frame.new) told.new.items (run (step_does self.now.names.now step.now (store_of frame.old)) told.old.items) }
+        ensures turns { OnOk result (frame.new.left ≤ frame.old.left) }
+    {
+        match step {
+            Step::While(condition, body) => self.repeat(body.as_slice(), condition, frame, told),
+            Step::For(slot, list, body) => match self.list(list, frame, told) {
+                Ok(items) => self.each(body.as_slice(), *slot, items, 0, frame, told),
+                Err(halt) => Err(halt.here()),
+            },
+            Step::If(condition, steps, others) => match self.holds(condition, frame, told) {
+                Ok(true) => then_in(self.alloc, self.rest(steps.as_slice(), 0, frame, told)),
+                Ok(false) => otherwise_in(self.alloc, self.rest(others.as_slice(), 0, frame, told)),
+                Err(halt) => Err(halt.here()),
+            },
+            Step::Set(_, _) => self.simple_step(step, frame, told),
+            Step::Append(_, _) => self.simple_step(step, frame, told),
+            Step::Return(_) => self.simple_step(step, frame, told),
+            Step::Raise(_) => self.simple_step(step, frame, told),
+            Step::Write(_, _) => self.simple_step(step, frame, told),
+            Step::Print(_) => self.simple_step(step, frame, told),
+            Step::Checkpoint => self.simple_step(step, frame, told),
+            Step::Do(_) => self.simple_step(step, frame, told),
+        }
+    }
+
+    #[cycle(step)]
+    #[tactic(auto, using(crate::proofs::Rules::step_rules, crate::proofs::Insides::place_rules))]
+    fn go_on(
+        &self,
+        step: &Step,
+        inside: Inside,
+        frame: &mut Frame,
+        told: &mut Vec<Answer>,
+    ) -> Result<Flow, Halt<Waiting>>
+        ensures runs { Runs flow_of (step_at self.now.names.now step.now) result (store_of frame.new) told.new.items (run (inside_does self.now.names.now inside step.now (store_of frame.old)) told.old.items) }
+        ensures turns { OnOk result (frame.new.left ≤ frame.old.left) }
+    {
+        match inside {
+            Inside::Then(number, inside) => match step {
+                Step::If(_, steps, _) => {
+                    let place = Place {
+                        step: number,
+                        inside,
+                    };
+                    then_in(self.alloc, self.steps(steps.as_slice(), place, frame, told))
+                }
+                _ => Ok(Flow::Goes),
+            },
+            Inside::Otherwise(number, inside) => match step {
+                Step::If(_, _, others) => {
+                    let place = Place {
+                        step: number,
+                        inside,
+                    };
+                    otherwise_in(
+                        self.alloc,
+                        self.steps(others.as_slice(), place, frame, told),
+                    )
+                }
+                _ => Ok(Flow::Goes),
+            },
+            Inside::Turn(number, inside) => match step {
+                Step::While(condition, body) => {
+                    let place = Place {
+                        step: number,
+                        inside,
+                    };
+                    self.go_on_turns(body.as_slice(), condition, place, frame, told)
+                }
+                _ => Ok(Flow::Goes),
+            },
+            Inside::Item(items, next, number, inside) => match step {
+                Step::For(slot, _, body) => {
+                    let place = Place {
+                        step: number,
+                        inside,
+                    };
+                    self.go_on_items(body.as_slice(), *slot, items, next, place, frame, told)
+                }
+                _ => Ok(Flow::Goes),
+            },
+        }
+    }
+
+    // ---- loops
+
+    #[cycle(step)]
+    #[tactic(auto, using(crate::proofs::Rules::step_rules, crate::proofs::Insides::place_rules))]
     fn repeat(
         &self,
-        body: &Block,
-        condition: &Expr,
+        body: &[Step],
+        condition: &Code,
         frame: &mut Frame,
-        answers: &mut Answers,
-    ) -> Result<Flow, Stop>
-        ensures runs { Runs result frame.new answers.new.left.now (run (m.repeated (m.value_of (names_in self.now.apps.now) condition.now) (m.does (names_in self.now.apps.now) self.now.names.now body.now) (state_of frame.old)) answers.old.left.now) }
+        told: &mut Vec<Answer>,
+    ) -> Result<Flow, Halt<Waiting>>
+        ensures runs { Runs flow_of (step_at self.now.names.now (step.While condition.now body.now)) result (store_of frame.new) told.new.items (run (repeated condition.now (steps_do self.now.names.now body.now) (store_of frame.old)) told.old.items) }
         ensures turns { OnOk result (frame.new.left ≤ frame.old.left) }
     {
         'turns: loop {
-            match self.turn(body, condition, frame, answers)? {
-                Turn::Over => return Ok(Flow::Goes),
-                Turn::Goes => {}
-                Turn::Returns(value) => return Ok(Flow::Returns(value)),
+            match self.turn(body, condition, frame, told) {
+                Ok(Turn::Over) => return Ok(Flow::Goes),
+                Ok(Turn::Goes) => {}
+                Ok(Turn::Returns(value)) => return Ok(Flow::Returns(value)),
+                Err(halt) => return Err(in_turns(self.alloc, halt)),
             }
         }
     }
 
-    #[cycle(statement)]
-    #[tactic(auto, using(crate::proofs::Rules::statement_rules))]
+    #[cycle(step)]
+    #[tactic(auto, using(crate::proofs::Rules::step_rules, crate::proofs::Insides::place_rules))]
     fn turn(
         &self,
-        body: &Block,
-        condition: &Expr,
+        body: &[Step],
+        condition: &Code,
         frame: &mut Frame,
-        answers: &mut Answers,
-    ) -> Result<Turn, Stop>
-        ensures runs { RunsTurn result frame.new answers.new.left.now (run (m.one_turn (m.value_of (names_in self.now.apps.now) condition.now) (m.does (names_in self.now.apps.now) self.now.names.now body.now) (state_of frame.old)) answers.old.left.now) }
+        told: &mut Vec<Answer>,
+    ) -> Result<Turn, Halt<Option<Place>>>
+        ensures runs { RunsTurn self.now.names.now body.now result (store_of frame.old) (store_of frame.new) told.old.items told.new.items (run (one_turn condition.now (steps_do self.now.names.now body.now) (store_of frame.old)) told.old.items) }
         ensures turns { OnOk result (frame.new.left ≤ frame.old.left) }
-        ensures over { result ≡ Ok Turn.Over → frame.new ≡ frame.old }
+        ensures over { result ≡ Ok Turn.Over → store_of frame.new ≡ store_of frame.old }
         ensures goes { result ≡ Ok Turn.Goes → frame.new.left < frame.old.left }
     {
-        if !truth_of(self.value(condition, frame, answers)?)? {
-            return Ok(Turn::Over);
+        match self.holds(condition, frame, told) {
+            Err(halt) => return Err(halt.here()),
+            Ok(false) => return Ok(Turn::Over),
+            Ok(true) => {}
         }
-        if frame.left == 0 {
-            return Err(Stop::Raised(Exception::BudgetError));
-        }
-        frame.left -= 1;
-        match self.block(body, frame, answers)? {
-            Flow::Goes => Ok(Turn::Goes),
-            Flow::Returns(value) => Ok(Turn::Returns(value)),
+        frame.turn()?;
+        match self.rest(body, 0, frame, told) {
+            Ok(Flow::Goes) => Ok(Turn::Goes),
+            Ok(Flow::Returns(value)) => Ok(Turn::Returns(value)),
+            Err(halt) => Err(halt.further()),
         }
     }
 
-    #[cycle(statement)]
-    #[tactic(auto, using(crate::proofs::Rules::statement_rules))]
+    /// A turn from a place on, and the turns behind it.
+    #[cycle(step)]
+    #[tactic(auto, using(crate::proofs::Rules::step_rules, crate::proofs::Insides::place_rules))]
+    fn go_on_turns(
+        &self,
+        body: &[Step],
+        condition: &Code,
+        place: Place,
+        frame: &mut Frame,
+        told: &mut Vec<Answer>,
+    ) -> Result<Flow, Halt<Waiting>>
+        ensures runs { Runs flow_of (step_at self.now.names.now (step.While condition.now body.now)) result (store_of frame.new) told.new.items (run (turns_at self.now.names.now condition.now body.now place.step place.inside (store_of frame.old)) told.old.items) }
+        ensures turns { OnOk result (frame.new.left ≤ frame.old.left) }
+    {
+        match self.steps(body, place, frame, told) {
+            Ok(Flow::Goes) => self.repeat(body, condition, frame, told),
+            Ok(Flow::Returns(value)) => Ok(Flow::Returns(value)),
+            Err(halt) => Err(in_turns(self.alloc, halt.further())),
+        }
+    }
+
+    #[cycle(step)]
+    #[tactic(auto, using(crate::proofs::Rules::step_rules, crate::proofs::Insides::place_rules))]
     fn each(
         &self,
-        body: &Block,
-        name: &Text,
-        items: &[Value],
+        body: &[Step],
+        slot: usize,
+        items: Items,
+        from: usize,
         frame: &mut Frame,
-        answers: &mut Answers,
-    ) -> Result<Flow, Stop>
-        ensures runs { Runs result frame.new answers.new.left.now (run (m.each_turn name.now (m.does (names_in self.now.apps.now) self.now.names.now body.now) items.now (state_of frame.old)) answers.old.left.now) }
+        told: &mut Vec<Answer>,
+    ) -> Result<Flow, Halt<Waiting>>
+        ensures runs { (e : CodeOf) → Runs flow_of (step_at self.now.names.now (step.For slot e body.now)) result (store_of frame.new) told.new.items (run (each_turn slot (steps_do self.now.names.now body.now) (drop from items) (store_of frame.old)) told.old.items) }
         ensures turns { OnOk result (frame.new.left ≤ frame.old.left) }
     {
-        for item in items {
-            match self.item(body, name, item, frame, answers)? {
-                Flow::Goes => {}
-                Flow::Returns(value) => return Ok(Flow::Returns(value)),
+        let mut next = from;
+        'turns: loop {
+            let item = match at(items.as_slice(), next) {
+                None => return Ok(Flow::Goes),
+                Some(item) => item.copy(self.alloc)?,
+            };
+            next += 1;
+            match self.item(body, slot, item, frame, told) {
+                Ok(Flow::Goes) => {}
+                Ok(Flow::Returns(value)) => return Ok(Flow::Returns(value)),
+                Err(halt) => return Err(in_items(self.alloc, items, next, halt)),
             }
         }
-        Ok(Flow::Goes)
     }
 
-    #[cycle(statement)]
-    #[tactic(auto, using(crate::proofs::Rules::statement_rules))]
+    /// A turn with an item.
+    #[cycle(step)]
+    #[tactic(auto, using(crate::proofs::Rules::step_rules, crate::proofs::Insides::place_rules))]
     fn item(
         &self,
-        body: &Block,
-        name: &Text,
-        item: &Value,
+        body: &[Step],
+        slot: usize,
+        item: Value,
         frame: &mut Frame,
-        answers: &mut Answers,
-    ) -> Result<Flow, Stop>
-        ensures runs { Runs result frame.new answers.new.left.now (run (m.item_turn name.now (m.does (names_in self.now.apps.now) self.now.names.now body.now) item.now (state_of frame.old)) answers.old.left.now) }
+        told: &mut Vec<Answer>,
+    ) -> Result<Flow, Halt<Place>>
+        ensures runs { Runs flow_of (λ p. steps_at self.now.names.now body.now p.step p.inside) result (store_of frame.new) told.new.items (run (item_turn slot (steps_do self.now.names.now body.now) item (store_of frame.old)) told.old.items) }
         ensures turns { OnOk result (frame.new.left ≤ frame.old.left) }
     {
-        if frame.left == 0 {
-            return Err(Stop::Raised(Exception::BudgetError));
+        frame.turn()?;
+        frame.set(slot, item);
+        self.rest(body, 0, frame, told)
+    }
+
+    /// A turn from a place on, and the turns with the items behind it.
+    #[cycle(step)]
+    #[tactic(auto, using(crate::proofs::Rules::step_rules, crate::proofs::Insides::place_rules))]
+    fn go_on_items(
+        &self,
+        body: &[Step],
+        slot: usize,
+        items: Items,
+        next: usize,
+        place: Place,
+        frame: &mut Frame,
+        told: &mut Vec<Answer>,
+    ) -> Result<Flow, Halt<Waiting>>
+        ensures runs { (e : CodeOf) → Runs flow_of (step_at self.now.names.now (step.For slot e body.now)) result (store_of frame.new) told.new.items (run (items_at self.now.names.now slot body.now (drop next items) place.step place.inside (store_of frame.old)) told.old.items) }
+        ensures turns { OnOk result (frame.new.left ≤ frame.old.left) }
+    {
+        match self.steps(body, place, frame, told) {
+            Ok(Flow::Goes) => self.each(body, slot, items, next, frame, told),
+            Ok(Flow::Returns(value)) => Ok(Flow::Returns(value)),
+            Err(halt) => Err(in_items(self.alloc, items, next, halt)),
         }
-        frame.left -= 1;
-        frame.set(self.alloc, name, item.copy(self.alloc)?)?;
-        self.block(body, frame, answers)
     }
 }

@@ -1,296 +1,357 @@
 //! The value of an expression.
 
-ghost use Rattle.std.specs.Prelude.{◌≡◌, ◌<◌, ◌^◌, map, length};
+ghost use Rattle.std.specs.Prelude.{Some, ◌∷◌, [], map, slice_get};
 ghost use Rattle.app_eval.specs.Gives.{Gives, GivesRun};
-ghost use Rattle.flow_meaning.specs.Run.{run};
-ghost use Rattle.app_eval.specs.Classes as calc;
+ghost use Rattle.body_code.specs.Meaning as code;
+ghost use Rattle.body_code.specs.Meaning.{code_value};
 ghost use Rattle.flow_meaning.specs.Meaning as m;
-ghost use Rattle.flow_meaning.specs.Walk.{names_in};
+ghost use Rattle.flow_meaning.specs.Run.{run};
+ghost use Rattle.app_eval.specs.Chains as calc;
+ghost use Rattle.flow_meaning.specs.Operators as meaning;
 
 use crate::answers::Answers;
-use crate::built_ins::applied;
+use crate::built_ins;
 use crate::comparisons::compared;
-use crate::operators::{Stop, added, limited, multiplied, negated, texts_of, truth, truth_of};
-use crate::places::indexed;
-use flow_base::{Exception, Items, Names, Text, Value};
-use flow_meaning::{Answer, Request};
-use script_tree::built_ins::named;
-use script_tree::tree::{
-    Added, AppDef, Atom, CallExpr, Comp, Conj, Expr, Factor, Post, Sum, Term, Unary, UnaryOp,
+use crate::got::Got;
+use crate::held::Held;
+use crate::operators::{
+    Stop, added, limited, list_of, multiplied, negated, texts_of, truth, truth_of,
 };
-use sqlite_items::Items as ListOf;
+use crate::places::indexed;
+use body_code::Code;
+use flow_base::{Exception, Items, Names, Value};
+use flow_meaning::{Answer, Request};
+use script_tree::tree::{BuiltIn, CompareOp, SumOp, TermOp, UnaryOp};
+use sqlite_items::{Items as ListOf, at};
 use std::alloc::Global;
 
-/// What an expression is evaluated in: the apps of the script, and the variables of the body.
+/// What an expression is evaluated in: the variables of the body.
 #[derive(Drop)]
 pub struct Scope<'a> {
     pub alloc: Global,
-    pub apps: &'a [AppDef],
-    pub vars: &'a [(Text, Value)],
-    ghost few: { length apps.now < 2 ^ 32 },
+    pub slots: &'a [Option<Held>],
 }
 
-/// The variable's value.
-fn variable(alloc: Global, name: &Text, vars: &[(Text, Value)]) -> Result<Value, Stop>
-    ensures { Gives result (m.got vars.now name.now) }
-{
-    for variable in vars {
-        if variable.0.same(name) {
-            return Ok(variable.1.copy(alloc)?);
-        }
-    }
-    Err(Stop::Raised(Exception::TypeError))
-}
-
-impl Scope<'_> {
+impl<'a> Scope<'a> {
     /// The value of an expression, by the answers to its requests.
     #[cycle(expr)]
-    #[tactic(auto, using(crate::proofs::Rules::expr_rules), unfolding(script_tree::specs::Folds::fold_expr, script_tree::specs::Folds::fold_conj))]
-    pub fn expr(&self, e: &Expr, answers: &mut Answers) -> Result<Value, Stop>
-        ensures { GivesRun result answers.new.left.now (run (calc.expr_calc (names_in self.now.apps.now) e.now self.now.vars.now) answers.old.left.now) }
+    #[tactic(auto, using(crate::proofs::Rules::run_rules))]
+    pub fn value(&self, e: &'a Code, answers: &mut Answers) -> Result<Value, Stop>
+        ensures { GivesRun result answers.new.left.now (run (code_value self.now.slots.now e.now) answers.old.left.now) }
     {
-        let first = self.conj(&e.first, answers)?;
-        if e.others.is_empty() {
-            return Ok(first);
+        Ok(self.got(e, answers)?.into_value(self.alloc)?)
+    }
+
+    /// Whether a condition holds.
+    #[cycle(expr)]
+    #[tactic(auto, using(crate::proofs::Rules::run_rules))]
+    pub fn holds(&self, e: &'a Code, answers: &mut Answers) -> Result<bool, Stop>
+        ensures { GivesRun result answers.new.left.now (run (calc.truth_calc self.now.slots.now e.now) answers.old.left.now) }
+    {
+        truth_of(self.got(e, answers)?.get())
+    }
+
+    /// The items of a list.
+    #[tactic(auto, using(crate::proofs::Rules::run_rules))]
+    pub fn list_of(&self, e: &'a Code, answers: &mut Answers) -> Result<Items, Stop>
+        ensures { GivesRun result answers.new.left.now (run (calc.items_of self.now.slots.now e.now) answers.old.left.now) }
+    {
+        list_of(self.value(e, answers)?)
+    }
+
+    /// What an expression gives.
+    #[cycle(expr)]
+    #[tactic(auto, using(crate::proofs::Rules::code_rules))]
+    pub fn got(&self, e: &'a Code, answers: &mut Answers) -> Result<Got<'a>, Stop>
+        ensures { GivesRun result answers.new.left.now (run (code_value self.now.slots.now e.now) answers.old.left.now) }
+    {
+        match e {
+            Code::Constant(value) => Ok(Got::kept(value)),
+            Code::TooLarge => Err(Stop::Raised(Exception::SizeError)),
+            Code::Slot(slot) => self.variable(*slot),
+            Code::List(es) => self.list(es.as_slice(), answers),
+            Code::One(built_in, e) => self.one(e.get(), *built_in, answers),
+            Code::Two(built_in, d, e) => {
+                let first = self.got(d.get(), answers)?;
+                self.two(e.get(), *built_in, first, answers)
+            }
+            Code::Three(built_in, c, d, e) => {
+                let first = self.got(c.get(), answers)?;
+                let second = self.got(d.get(), answers)?;
+                self.three(e.get(), *built_in, first, second, answers)
+            }
+            Code::Unknown(es) => self.unknown(es.as_slice(), answers),
+            Code::Call(app, arguments, names) => {
+                let arguments = self.values(arguments.as_slice(), answers)?;
+                self.call(names.as_slice(), *app, arguments, answers)
+            }
+            Code::Any(first, others) => {
+                let holds = self.holds(first.get(), answers)?;
+                self.any(others.as_slice(), holds, answers)
+            }
+            Code::All(first, others) => {
+                let holds = self.holds(first.get(), answers)?;
+                self.all(others.as_slice(), holds, answers)
+            }
+            Code::Compared(op, d, e) => {
+                let left = self.got(d.get(), answers)?;
+                self.comparison(e.get(), *op, left, answers)
+            }
+            Code::Sum(first, others) => {
+                let left = self.got(first.get(), answers)?;
+                self.sums(others.as_slice(), left, answers)
+            }
+            Code::Product(first, others) => {
+                let left = self.got(first.get(), answers)?;
+                self.products(others.as_slice(), left, answers)
+            }
+            Code::At(from, indices) => {
+                let from = self.got(from.get(), answers)?;
+                self.items_at(indices.as_slice(), from, answers)
+            }
+            Code::Signed(op, e) => self.signed(e.get(), *op, answers),
         }
-        self.any(e.others.as_slice(), first, answers)
+    }
+
+    fn variable(&self, slot: usize) -> Result<Got<'a>, Stop>
+        ensures { Gives result (code.held (slice_get self.now.slots.now slot)) }
+    {
+        match at(self.slots, slot) {
+            None => Err(Stop::Raised(Exception::TypeError)),
+            Some(None) => Err(Stop::Raised(Exception::TypeError)),
+            Some(Some(held)) => Ok(Got::kept(held.get())),
+        }
     }
 
     #[cycle(expr)]
-    #[tactic(auto, using(crate::proofs::Rules::expr_rules), unfolding(script_tree::specs::Folds::fold_conj))]
-    fn any(&self, others: &[Conj], first: Value, answers: &mut Answers) -> Result<Value, Stop>
-        ensures { GivesRun result answers.new.left.now (run (calc.any_calc (names_in self.now.apps.now) first others.now self.now.vars.now) answers.old.left.now) }
+    #[tactic(auto, using(crate::proofs::Rules::run_rules))]
+    fn signed(&self, e: &'a Code, op: UnaryOp, answers: &mut Answers) -> Result<Got<'a>, Stop>
+        ensures { GivesRun result answers.new.left.now (run (calc.signed_calc self.now.slots.now op e.now) answers.old.left.now) }
     {
-        let mut holds = truth_of(first)?;
+        let value = self.got(e, answers)?;
+        Ok(Got::made(signed_value(op, value.get())?))
+    }
+
+    #[cycle(expr)]
+    #[tactic(auto, using(crate::proofs::Rules::run_rules))]
+    fn one(&self, e: &'a Code, built_in: BuiltIn, answers: &mut Answers) -> Result<Got<'a>, Stop>
+        ensures { GivesRun result answers.new.left.now (run (calc.one_calc self.now.slots.now built_in e.now) answers.old.left.now) }
+    {
+        let value = self.got(e, answers)?;
+        Ok(Got::made(built_ins::one(self.alloc, built_in, value.get(), answers)?))
+    }
+
+    #[cycle(expr)]
+    #[tactic(auto, using(crate::proofs::Rules::run_rules))]
+    fn two(
+        &self,
+        e: &'a Code,
+        built_in: BuiltIn,
+        first: Got<'a>,
+        answers: &mut Answers,
+    ) -> Result<Got<'a>, Stop>
+        ensures { GivesRun result answers.new.left.now (run (calc.two_from self.now.slots.now built_in first.entry e.now) answers.old.left.now) }
+    {
+        let second = self.got(e, answers)?;
+        Ok(Got::made(built_ins::two(self.alloc, built_in, first.get(), second.get())?))
+    }
+
+    #[cycle(expr)]
+    #[tactic(auto, using(crate::proofs::Rules::run_rules))]
+    fn three(
+        &self,
+        e: &'a Code,
+        built_in: BuiltIn,
+        first: Got<'a>,
+        second: Got<'a>,
+        answers: &mut Answers,
+    ) -> Result<Got<'a>, Stop>
+        ensures { GivesRun result answers.new.left.now (run (calc.three_from self.now.slots.now built_in first.entry second.entry e.now) answers.old.left.now) }
+    {
+        let third = self.got(e, answers)?;
+        Ok(Got::made(built_ins::three(
+            self.alloc,
+            built_in,
+            first.get(),
+            second.get(),
+            third.get(),
+        )?))
+    }
+
+    #[cycle(expr)]
+    #[tactic(auto, using(crate::proofs::Rules::run_rules))]
+    fn comparison(
+        &self,
+        e: &'a Code,
+        op: CompareOp,
+        left: Got<'a>,
+        answers: &mut Answers,
+    ) -> Result<Got<'a>, Stop>
+        ensures { GivesRun result answers.new.left.now (run (calc.compared_from self.now.slots.now op left.entry e.now) answers.old.left.now) }
+    {
+        let right = self.got(e, answers)?;
+        Ok(Got::made(compared(op, left.get(), right.get())?))
+    }
+
+    #[cycle(expr)]
+    #[tactic(auto, using(crate::proofs::Rules::run_rules))]
+    fn unknown(&self, es: &'a [Code], answers: &mut Answers) -> Result<Got<'a>, Stop>
+        ensures { GivesRun result answers.new.left.now (run (calc.unknown_calc self.now.slots.now es.now) answers.old.left.now) }
+    {
+        let _ = self.values(es, answers)?;
+        Err(Stop::Raised(Exception::TypeError))
+    }
+
+    #[cycle(expr)]
+    #[tactic(auto, using(crate::proofs::Rules::run_rules))]
+    fn any(&self, others: &'a [Code], first: bool, answers: &mut Answers) -> Result<Got<'a>, Stop>
+        ensures { GivesRun result answers.new.left.now (run (calc.any_from self.now.slots.now first others.now) answers.old.left.now) }
+    {
+        let mut holds = first;
         for other in others {
             if holds {
-                return Ok(truth(true));
+                return Ok(Got::made(truth(true)));
             }
-            holds = truth_of(self.conj(other, answers)?)?;
+            holds = self.holds(other, answers)?;
         }
-        Ok(truth(holds))
+        Ok(Got::made(truth(holds)))
     }
 
     #[cycle(expr)]
-    #[tactic(auto, using(crate::proofs::Rules::expr_rules), unfolding(script_tree::specs::Folds::fold_conj, script_tree::specs::Folds::fold_comp))]
-    fn conj(&self, e: &Conj, answers: &mut Answers) -> Result<Value, Stop>
-        ensures { GivesRun result answers.new.left.now (run (calc.conj_calc (names_in self.now.apps.now) e.now self.now.vars.now) answers.old.left.now) }
+    #[tactic(auto, using(crate::proofs::Rules::run_rules))]
+    fn all(&self, others: &'a [Code], first: bool, answers: &mut Answers) -> Result<Got<'a>, Stop>
+        ensures { GivesRun result answers.new.left.now (run (calc.all_from self.now.slots.now first others.now) answers.old.left.now) }
     {
-        let first = self.comp(&e.first, answers)?;
-        if e.others.is_empty() {
-            return Ok(first);
-        }
-        self.all(e.others.as_slice(), first, answers)
-    }
-
-    #[cycle(expr)]
-    #[tactic(auto, using(crate::proofs::Rules::expr_rules), unfolding(script_tree::specs::Folds::fold_comp))]
-    fn all(&self, others: &[Comp], first: Value, answers: &mut Answers) -> Result<Value, Stop>
-        ensures { GivesRun result answers.new.left.now (run (calc.all_calc (names_in self.now.apps.now) first others.now self.now.vars.now) answers.old.left.now) }
-    {
-        let mut holds = truth_of(first)?;
+        let mut holds = first;
         for other in others {
             if !holds {
-                return Ok(truth(false));
+                return Ok(Got::made(truth(false)));
             }
-            holds = truth_of(self.comp(other, answers)?)?;
+            holds = self.holds(other, answers)?;
         }
-        Ok(truth(holds))
+        Ok(Got::made(truth(holds)))
     }
 
     #[cycle(expr)]
-    #[tactic(auto, using(crate::proofs::Rules::expr_rules), unfolding(script_tree::specs::Folds::fold_comp, script_tree::specs::Folds::fold_compared, script_tree::specs::Folds::fold_sum))]
-    fn comp(&self, e: &Comp, answers: &mut Answers) -> Result<Value, Stop>
-        ensures { GivesRun result answers.new.left.now (run (calc.comp_calc (names_in self.now.apps.now) e.now self.now.vars.now) answers.old.left.now) }
-    {
-        let left = self.sum(&e.left, answers)?;
-        match &e.test {
-            None => Ok(left),
-            Some(test) => {
-                let right = self.sum(&test.right, answers)?;
-                compared(test.op, &left, &right)
-            }
-        }
-    }
-
-    #[cycle(expr)]
-    #[tactic(auto, using(crate::proofs::Rules::expr_rules), unfolding(script_tree::specs::Folds::fold_sum, script_tree::specs::Folds::fold_term, script_tree::specs::Folds::fold_added))]
-    fn sum(&self, e: &Sum, answers: &mut Answers) -> Result<Value, Stop>
-        ensures { GivesRun result answers.new.left.now (run (calc.sum_calc (names_in self.now.apps.now) e.now self.now.vars.now) answers.old.left.now) }
-    {
-        let left = self.term(&e.first, answers)?;
-        self.sums(e.others.as_slice(), left, answers)
-    }
-
-    #[cycle(expr)]
-    #[tactic(auto, using(crate::proofs::Rules::expr_rules), unfolding(script_tree::specs::Folds::fold_added, script_tree::specs::Folds::fold_term))]
-    fn sums(&self, others: &[Added], first: Value, answers: &mut Answers) -> Result<Value, Stop>
-        ensures { GivesRun result answers.new.left.now (run (m.sums self.now.vars.now first (map (calc.added_calc (names_in self.now.apps.now)) others.now)) answers.old.left.now) }
+    #[tactic(auto, using(crate::proofs::Rules::run_rules))]
+    fn sums(
+        &self,
+        others: &'a [(SumOp, Code)],
+        first: Got<'a>,
+        answers: &mut Answers,
+    ) -> Result<Got<'a>, Stop>
+        ensures { GivesRun result answers.new.left.now (run (code.sums first.entry (calc.operands self.now.slots.now others.now)) answers.old.left.now) }
     {
         let mut left = first;
         for other in others {
-            let right = self.term(&other.term, answers)?;
-            left = added(other.op, left, right)?;
+            let right = self.got(&other.1, answers)?;
+            left = Got::made(added(self.alloc, other.0, left, right.get())?);
         }
         Ok(left)
     }
 
     #[cycle(expr)]
-    #[tactic(auto, using(crate::proofs::Rules::expr_rules), unfolding(script_tree::specs::Folds::fold_term, script_tree::specs::Folds::fold_unary, script_tree::specs::Folds::fold_factor))]
-    fn term(&self, e: &Term, answers: &mut Answers) -> Result<Value, Stop>
-        ensures { GivesRun result answers.new.left.now (run (calc.term_calc (names_in self.now.apps.now) e.now self.now.vars.now) answers.old.left.now) }
-    {
-        let left = self.unary(&e.first, answers)?;
-        self.products(e.others.as_slice(), left, answers)
-    }
-
-    #[cycle(expr)]
-    #[tactic(auto, using(crate::proofs::Rules::expr_rules), unfolding(script_tree::specs::Folds::fold_factor, script_tree::specs::Folds::fold_unary))]
+    #[tactic(auto, using(crate::proofs::Rules::run_rules))]
     fn products(
         &self,
-        others: &[Factor],
-        first: Value,
+        others: &'a [(TermOp, Code)],
+        first: Got<'a>,
         answers: &mut Answers,
-    ) -> Result<Value, Stop>
-        ensures { GivesRun result answers.new.left.now (run (m.products self.now.vars.now first (map (calc.factor_calc (names_in self.now.apps.now)) others.now)) answers.old.left.now) }
+    ) -> Result<Got<'a>, Stop>
+        ensures { GivesRun result answers.new.left.now (run (code.products first.entry (calc.operands self.now.slots.now others.now)) answers.old.left.now) }
     {
         let mut left = first;
         for other in others {
-            let right = self.unary(&other.unary, answers)?;
-            left = multiplied(other.op, left, right)?;
+            let right = self.got(&other.1, answers)?;
+            left = Got::made(multiplied(other.0, left.get(), right.get())?);
         }
         Ok(left)
     }
 
     #[cycle(expr)]
-    #[tactic(auto, using(crate::proofs::Rules::expr_rules), unfolding(script_tree::specs::Folds::fold_unary, script_tree::specs::Folds::fold_post))]
-    fn unary(&self, e: &Unary, answers: &mut Answers) -> Result<Value, Stop>
-        ensures { GivesRun result answers.new.left.now (run (calc.unary_calc (names_in self.now.apps.now) e.now self.now.vars.now) answers.old.left.now) }
-    {
-        let value = self.post(&e.post, answers)?;
-        match e.op {
-            None => Ok(value),
-            Some(UnaryOp::Minus) => negated(value),
-            Some(UnaryOp::Not) => Ok(truth(!truth_of(value)?)),
-        }
-    }
-
-    #[cycle(expr)]
-    #[tactic(auto, using(crate::proofs::Rules::expr_rules), unfolding(script_tree::specs::Folds::fold_post, script_tree::specs::Folds::fold_atom, script_tree::specs::Folds::fold_expr))]
-    fn post(&self, e: &Post, answers: &mut Answers) -> Result<Value, Stop>
-        ensures { GivesRun result answers.new.left.now (run (calc.post_calc (names_in self.now.apps.now) e.now self.now.vars.now) answers.old.left.now) }
-    {
-        let from = self.atom(&e.atom, answers)?;
-        self.items_at(e.indices.as_slice(), from, answers)
-    }
-
-    #[cycle(expr)]
-    #[tactic(auto, using(crate::proofs::Rules::expr_rules), unfolding(script_tree::specs::Folds::fold_expr))]
-    fn items_at(&self, others: &[Expr], first: Value, answers: &mut Answers) -> Result<Value, Stop>
-        ensures { GivesRun result answers.new.left.now (run (m.items_at self.now.vars.now first (map (calc.expr_calc (names_in self.now.apps.now)) others.now)) answers.old.left.now) }
+    #[tactic(auto, using(crate::proofs::Rules::run_rules))]
+    fn items_at(
+        &self,
+        others: &'a [Code],
+        first: Got<'a>,
+        answers: &mut Answers,
+    ) -> Result<Got<'a>, Stop>
+        ensures { GivesRun result answers.new.left.now (run (code.items_at first.entry (map (code_value self.now.slots.now) others.now)) answers.old.left.now) }
     {
         let mut from = first;
         for other in others {
-            let index = self.expr(other, answers)?;
-            from = indexed(self.alloc, &from, &index)?;
+            let index = self.got(other, answers)?;
+            from = indexed(self.alloc, from, index.get())?;
         }
         Ok(from)
     }
 
     #[cycle(expr)]
-    #[tactic(auto, using(crate::proofs::Rules::expr_rules), unfolding(script_tree::specs::Folds::fold_atom, script_tree::specs::Folds::fold_expr, script_tree::specs::Folds::fold_call))]
-    fn atom(&self, e: &Atom, answers: &mut Answers) -> Result<Value, Stop>
-        ensures { GivesRun result answers.new.left.now (run (calc.atom_calc (names_in self.now.apps.now) e.now self.now.vars.now) answers.old.left.now) }
-    {
-        match e {
-            Atom::Number(n) => Ok(Value::Int(*n)),
-            Atom::Text(text) => limited(Value::Text(text.copy(self.alloc)?)),
-            Atom::Nothing => Ok(Value::Nothing),
-            Atom::Variable(name) => variable(self.alloc, name, self.vars),
-            Atom::Paren(e) => self.expr(e.get(), answers),
-            Atom::List(es) => self.list(es.as_slice(), answers),
-            Atom::BuiltIn(name, es) => self.built_in(name, es.as_slice(), answers),
-            Atom::Call(call) => self.call(call.get(), answers),
-        }
-    }
-
-    #[cycle(expr)]
-    #[tactic(auto, using(crate::proofs::Rules::expr_rules), unfolding(script_tree::specs::Folds::fold_expr))]
-    fn list(&self, es: &[Expr], answers: &mut Answers) -> Result<Value, Stop>
-        ensures { GivesRun result answers.new.left.now (run (calc.list_calc (names_in self.now.apps.now) es.now self.now.vars.now) answers.old.left.now) }
+    #[tactic(auto, using(crate::proofs::Rules::run_rules))]
+    fn list(&self, es: &'a [Code], answers: &mut Answers) -> Result<Got<'a>, Stop>
+        ensures { GivesRun result answers.new.left.now (run (calc.list_calc self.now.slots.now es.now) answers.old.left.now) }
     {
         let values = self.values(es, answers)?;
-        limited(Value::List(values))
+        Ok(Got::made(limited(Value::List(values))?))
     }
 
     #[cycle(expr)]
-    #[tactic(auto, using(crate::proofs::Rules::expr_rules), unfolding(script_tree::specs::Folds::fold_expr))]
-    fn built_in(&self, name: &Text, es: &[Expr], answers: &mut Answers) -> Result<Value, Stop>
-        ensures { GivesRun result answers.new.left.now (run (calc.built_in_calc (names_in self.now.apps.now) name.now es.now self.now.vars.now) answers.old.left.now) }
-    {
-        let values = self.values(es, answers)?;
-        match named(name) {
-            None => Err(Stop::Raised(Exception::TypeError)),
-            Some(built_in) => applied(self.alloc, built_in, values.as_slice(), answers),
-        }
-    }
-
-    /// The future of a call: its arguments and then its names are evaluated, and it is asked for.
-    #[cycle(expr)]
-    #[tactic(auto, using(crate::proofs::Rules::expr_rules), unfolding(script_tree::specs::Folds::fold_call, script_tree::specs::Folds::fold_expr))]
-    pub fn call(&self, e: &CallExpr, answers: &mut Answers) -> Result<Value, Stop>
-        ensures { GivesRun result answers.new.left.now (run (calc.call_calc (names_in self.now.apps.now) e.now self.now.vars.now) answers.old.left.now) }
-    {
-        let arguments = self.values(e.arguments.as_slice(), answers)?;
-        let names = self.values(e.names.as_slice(), answers)?;
-        let names = texts_of(self.alloc, names.as_slice())?;
-        self.called(&e.app, arguments, names, answers)
-    }
-
-    #[cycle(expr)]
-    #[tactic(auto, using(crate::proofs::Rules::expr_rules), unfolding(script_tree::specs::Folds::fold_expr))]
-    fn values(&self, es: &[Expr], answers: &mut Answers) -> Result<Items, Stop>
-        ensures { GivesRun result answers.new.left.now (run (m.values self.now.vars.now (map (calc.expr_calc (names_in self.now.apps.now)) es.now)) answers.old.left.now) }
+    #[tactic(auto, using(crate::proofs::Rules::run_rules))]
+    fn values(&self, es: &'a [Code], answers: &mut Answers) -> Result<Items, Stop>
+        ensures { GivesRun result answers.new.left.now (run (calc.values_calc self.now.slots.now es.now) answers.old.left.now) }
     {
         let mut values = ListOf::new(self.alloc);
         for e in es {
-            values.push(self.expr(e, answers)?)?;
+            values.push(self.value(e, answers)?)?;
         }
         Ok(values)
+    }
+
+    /// The future of a call of these arguments, and of names of outputs.
+    #[cycle(expr)]
+    #[tactic(auto, using(crate::proofs::Rules::run_rules))]
+    fn call(
+        &self,
+        names: &'a [Code],
+        app: u32,
+        arguments: Items,
+        answers: &mut Answers,
+    ) -> Result<Got<'a>, Stop>
+        ensures { GivesRun result answers.new.left.now (run (calc.call_from self.now.slots.now app arguments names.now) answers.old.left.now) }
+    {
+        let names = self.values(names, answers)?;
+        let names = texts_of(self.alloc, names.as_slice())?;
+        self.called(app, arguments, names, answers)
     }
 
     /// The future of a call of these arguments and names.
     fn called(
         &self,
-        app: &Text,
+        app: u32,
         arguments: Items,
         names: Names,
         answers: &mut Answers,
-    ) -> Result<Value, Stop>
-        ensures { GivesRun result answers.new.left.now (run (m.call_of (names_in self.now.apps.now) app.now arguments names) answers.old.left.now) }
+    ) -> Result<Got<'a>, Stop>
+        ensures { GivesRun result answers.new.left.now (run (calc.asks_call app arguments names) answers.old.left.now) }
     {
         match answers.next() {
             None => Err(Stop::Asks(Request::Call {
-                app: self.number_of(app),
+                app,
                 arguments,
                 names,
             })),
-            Some(Answer::Called(future)) => Ok(future.copy(self.alloc)?),
+            Some(Answer::Called(future)) => Ok(Got::made(future.copy(self.alloc)?)),
             Some(_) => Err(Stop::Raised(Exception::TypeError)),
         }
     }
+}
 
-    /// The number of the first app of a name.
-    fn number_of(&self, name: &Text) -> u32
-        ensures { result ≡ m.number_of (names_in self.now.apps.now) name.now }
-    {
-        let mut number: u32 = 0;
-        for app in self.apps {
-            if app.name.same(name) {
-                return number;
-            }
-            number += 1;
-        }
-        number
+/// A value behind its sign.
+fn signed_value(op: UnaryOp, value: &Value) -> Result<Value, Stop>
+    ensures { Gives result (m.signed (Some op) value.now) }
+{
+    match op {
+        UnaryOp::Minus => negated(value),
+        UnaryOp::Not => Ok(truth(!truth_of(value)?)),
     }
 }

@@ -1,19 +1,20 @@
 //! Variables, written outputs and turns.
 
-ghost use Rattle.std.specs.Prelude.{◌≡◌, [], OnOk, position, bytes_eq, slice_set};
-ghost use Rattle.app_eval.specs.Does.{Writes, state_of};
+ghost use Rattle.std.specs.Prelude.{◌≡◌, ◌<◌, Some, OnOk, slice_get, slice_set};
+ghost use Rattle.app_eval.specs.Does.{Changes, IsSet, Turns, appends, store_of, writes_text};
+ghost use Rattle.body_code.specs.Meaning as code;
 ghost use Rattle.flow_meaning.specs.Meaning as m;
 
-use crate::operators::Stop;
+use crate::held::Held;
+use crate::operators::{Stop, int_of};
 use crate::places::place_in;
 use flow_base::{Exception, Text, Value};
-use std::alloc::{AllocError, Global};
 
 /// What a body has while it runs.
 #[derive(Drop)]
 pub struct Frame {
-    /// Its variables, each with its value, in the order in which they were first set.
-    pub vars: Vec<(Text, Value)>,
+    /// The variables, by their slots.
+    pub slots: Vec<Option<Held>>,
     /// What it wrote to each output.
     pub written: Vec<Option<Text>>,
     /// How many turns its loops may still make.
@@ -27,40 +28,69 @@ pub enum Flow {
     Returns(Value),
 }
 
-/// A turn of a loop: none where its condition is false.
-#[derive(Drop)]
-pub enum Turn {
-    Over,
-    Goes,
-    Returns(Value),
-}
-
-/// The place of a variable.
-fn place(vars: &[(Text, Value)], name: &Text) -> Option<usize>
-    ensures { result ≡ position (λ e. bytes_eq e.0 name.now) vars.now }
-{
-    vars.iter().position(|variable| variable.0.same(name))
-}
-
 impl Frame {
     /// Sets a variable.
-    pub fn set(&mut self, alloc: Global, name: &Text, value: Value) -> Result<(), AllocError>
-        ensures vars { OnOk result (self.new.vars.items ≡ m.put self.old.vars.items name.now value) }
-        ensures written { self.new.written ≡ self.old.written }
-        ensures left { self.new.left ≡ self.old.left }
+    pub fn set(&mut self, slot: usize, value: Value)
+        ensures { store_of self.new ≡ code.with_slot slot value (store_of self.old) }
     {
-        match place(self.vars.as_slice(), name) {
-            Some(at) => self.vars[at].1 = value,
-            None => self.vars.push((name.copy(alloc)?, value))?,
+        if slot < self.slots.len() {
+            self.slots[slot] = Some(Held::of(value));
         }
+    }
+
+    /// One more turn of a loop, or BudgetError.
+    pub fn turn(&mut self) -> Result<(), Exception>
+        ensures turns { Turns result (store_of self.new) (code.turn (store_of self.old)) }
+        ensures fewer { OnOk result (self.new.left < self.old.left) }
+    {
+        if self.left == 0 {
+            return Err(Exception::BudgetError);
+        }
+        self.left -= 1;
         Ok(())
     }
 
+    /// TypeError where the variable isn't set.
+    pub fn is_set(&self, slot: usize) -> Result<(), Stop>
+        ensures { IsSet result (code.held (slice_get self.now.slots.items slot)) }
+    {
+        match self.slots.get(slot) {
+            Some(Some(_)) => Ok(()),
+            _ => Err(Stop::Raised(Exception::TypeError)),
+        }
+    }
+
+    /// The list in a slot gets one more item.
+    pub fn append(&mut self, slot: usize, item: Value) -> Result<(), Stop>
+        ensures appends { Changes result (store_of self.new) (appends slot item (store_of self.old)) }
+        ensures left { OnOk result (self.new.left ≡ self.old.left) }
+    {
+        if slot >= self.slots.len() {
+            return Err(Stop::Raised(Exception::TypeError));
+        }
+        match &mut self.slots[slot] {
+            None => Err(Stop::Raised(Exception::TypeError)),
+            Some(held) => held.append(item),
+        }
+    }
+
     /// Writes a text to an output, in place of what was written to it before.
+    #[tactic(auto, unfolding(flow_meaning::specs::Operators::text_of))]
+    pub fn write(&mut self, names: &[Text], output: &Value, content: Value) -> Result<(), Stop>
+        ensures writes { Changes result (store_of self.new) (code.writes names.now output.now content (store_of self.old)) }
+        ensures left { OnOk result (self.new.left ≡ self.old.left) }
+    {
+        let output = int_of(output)?;
+        match content {
+            Value::Text(content) => self.write_text(names, output, content),
+            _ => Err(Stop::Raised(Exception::TypeError)),
+        }
+    }
+
     #[tactic(auto, using(crate::proofs::Within::name_within))]
-    pub fn write(&mut self, names: &[Text], output: i64, content: Text) -> Result<(), Stop>
-        ensures writes { Writes result (state_of self.old) (state_of self.new) (m.writes [] names.now output content) }
-        ensures left { self.new.left ≡ self.old.left }
+    fn write_text(&mut self, names: &[Text], output: i64, content: Text) -> Result<(), Stop>
+        ensures writes { Changes result (store_of self.new) (writes_text names.now output content (store_of self.old)) }
+        ensures left { OnOk result (self.new.left ≡ self.old.left) }
     {
         let place = place_in(output, names.len())?;
         if !file_fits(&names[place], &content) {

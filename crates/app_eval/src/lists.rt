@@ -1,54 +1,37 @@
 //! The built-ins on lists, and those that take a text or a list.
 
-ghost use Rattle.std.specs.Prelude.{◌≡◌, ◌-◌, ◌≤◌, ◌-ℤ◌, length, take, drop, IfOk};
+ghost use Rattle.std.specs.Prelude.{◌∷◌, [], ◌≡◌, ◌-◌, ◌≤◌, ◌-ℤ◌, length, take, drop, IfOk};
 ghost use Rattle.app_eval.specs.Gives.{Gives};
 ghost use Rattle.flow_base.specs.declared.value.Value.TheOpen.{Value-F};
 ghost use Rattle.flow_base.specs.declared.value.Value.{out-Value};
 ghost use Rattle.flow_meaning.specs.Meaning as m;
 ghost use Rattle.flow_meaning.specs.Operators as meaning;
 
-use crate::operators::{Stop, limited};
+use crate::operators::{Stop, copies, limited};
 use crate::places::ends_in;
 use flow_base::{Exception, Items, Text, Value};
 use script_tree::tree::BuiltIn;
 use sqlite_items::Items as ListOf;
 use std::alloc::{AllocError, Global};
 
-/// Copies of the values.
-fn copies(alloc: Global, values: &[Value]) -> Result<Items, AllocError>
-    ensures { IfOk result (λ copies. copies ≡ values.now) }
-{
-    let mut copies = ListOf::new(alloc);
-    for value in values {
-        copies.push(value.copy(alloc)?)?;
-    }
-    Ok(copies)
-}
-
 /// The bytes of a text, or the items of a list.
-pub fn len(values: &[Value]) -> Result<Value, Stop>
-    ensures { Gives result (m.applied_to BuiltIn.Len values.now) }
+pub fn len(value: &Value) -> Result<Value, Stop>
+    ensures { Gives result (m.applied_to BuiltIn.Len (value.now ∷ [])) }
 {
-    match values {
-        [value] => match value {
-            Value::Text(text) => Ok(Value::Int(text.as_slice().len() as i64)),
-            Value::List(items) => Ok(Value::Int(items.as_slice().len() as i64)),
-            _ => Err(Stop::Raised(Exception::TypeError)),
-        },
+    match value {
+        Value::Text(text) => Ok(Value::Int(text.as_slice().len() as i64)),
+        Value::List(items) => Ok(Value::Int(items.as_slice().len() as i64)),
         _ => Err(Stop::Raised(Exception::TypeError)),
     }
 }
 
 /// The items or the bytes from one place up to below another.
-pub fn slice(alloc: Global, values: &[Value]) -> Result<Value, Stop>
-    ensures { Gives result (m.applied_to BuiltIn.Slice values.now) }
+pub fn slice(alloc: Global, value: &Value, from: &Value, to: &Value) -> Result<Value, Stop>
+    ensures { Gives result (m.applied_to BuiltIn.Slice (value.now ∷ from.now ∷ to.now ∷ [])) }
 {
-    match values {
-        [value, from, to] => match value {
-            Value::Text(text) => text_part(alloc, text, from, to),
-            Value::List(items) => list_part(alloc, items.as_slice(), from, to),
-            _ => Err(Stop::Raised(Exception::TypeError)),
-        },
+    match value {
+        Value::Text(text) => text_part(alloc, text, from, to),
+        Value::List(items) => list_part(alloc, items.as_slice(), from, to),
         _ => Err(Stop::Raised(Exception::TypeError)),
     }
 }
@@ -94,33 +77,27 @@ fn list_part(alloc: Global, items: &[Value], from: &Value, to: &Value) -> Result
 
 /// The list with an item at its end.
 #[tactic(auto, unfolding(flow_meaning::specs::Operators::list_of))]
-pub fn append(alloc: Global, values: &[Value]) -> Result<Value, Stop>
-    ensures { Gives result (m.applied_to BuiltIn.Append values.now) }
+pub fn append(alloc: Global, list: &Value, item: &Value) -> Result<Value, Stop>
+    ensures { Gives result (m.applied_to BuiltIn.Append (list.now ∷ item.now ∷ [])) }
 {
-    match values {
-        [list, item] => match list {
-            Value::List(items) => {
-                let mut items = copies(alloc, items.as_slice())?;
-                items.push(item.copy(alloc)?)?;
-                limited(Value::List(items))
-            }
-            _ => Err(Stop::Raised(Exception::TypeError)),
-        },
+    match list {
+        Value::List(items) => {
+            let mut items = copies(alloc, items.as_slice())?;
+            items.push(item.copy(alloc)?)?;
+            limited(Value::List(items))
+        }
         _ => Err(Stop::Raised(Exception::TypeError)),
     }
 }
 
 /// The Ints from one up to below another, or SizeError where they are too many for a value.
 #[tactic(auto, unfolding(flow_meaning::specs::Operators::int_of))]
-pub fn range(alloc: Global, values: &[Value]) -> Result<Value, Stop>
-    ensures { Gives result (m.applied_to BuiltIn.Range values.now) }
+pub fn range(alloc: Global, from: &Value, to: &Value) -> Result<Value, Stop>
+    ensures { Gives result (m.applied_to BuiltIn.Range (from.now ∷ to.now ∷ [])) }
 {
-    match values {
-        [from, to] => match from {
-            Value::Int(from) => match to {
-                Value::Int(to) => ints_between(alloc, *from, *to),
-                _ => Err(Stop::Raised(Exception::TypeError)),
-            },
+    match from {
+        Value::Int(from) => match to {
+            Value::Int(to) => ints_between(alloc, *from, *to),
             _ => Err(Stop::Raised(Exception::TypeError)),
         },
         _ => Err(Stop::Raised(Exception::TypeError)),

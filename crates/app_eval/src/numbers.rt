@@ -1,6 +1,6 @@
 //! The built-ins between Ints and texts.
 
-ghost use Rattle.std.specs.Prelude.{◌≡◌, pos, neg_ℤ, IfOk};
+ghost use Rattle.std.specs.Prelude.{◌∷◌, [], ◌≡◌, pos, neg_ℤ, IfOk};
 ghost use Rattle.app_eval.specs.Gives.{Gives};
 ghost use Rattle.app_eval.specs.Numbers.{capped};
 ghost use Rattle.flow_meaning.specs.Meaning as m;
@@ -13,14 +13,11 @@ use std::alloc::{AllocError, Global};
 
 /// The decimal text of an Int.
 #[tactic(auto, unfolding(flow_meaning::specs::Operators::int_of))]
-pub fn text(alloc: Global, values: &[Value]) -> Result<Value, Stop>
-    ensures { Gives result (m.applied_to BuiltIn.Text values.now) }
+pub fn text(alloc: Global, value: &Value) -> Result<Value, Stop>
+    ensures { Gives result (m.applied_to BuiltIn.Text (value.now ∷ [])) }
 {
-    match values {
-        [value] => match value {
-            Value::Int(n) => Ok(Value::Text(decimal(alloc, *n)?)),
-            _ => Err(Stop::Raised(Exception::TypeError)),
-        },
+    match value {
+        Value::Int(n) => Ok(Value::Text(decimal(alloc, *n)?)),
         _ => Err(Stop::Raised(Exception::TypeError)),
     }
 }
@@ -34,14 +31,11 @@ fn decimal(alloc: Global, n: i64) -> Result<Text, AllocError>
 
 /// The Int that a text spells: digits, with `-` before them or none; else ValueError.
 #[tactic(auto, unfolding(flow_meaning::specs::Operators::text_of))]
-pub fn number(values: &[Value]) -> Result<Value, Stop>
-    ensures { Gives result (m.applied_to BuiltIn.Number values.now) }
+pub fn number(value: &Value) -> Result<Value, Stop>
+    ensures { Gives result (m.applied_to BuiltIn.Number (value.now ∷ [])) }
 {
-    match values {
-        [value] => match value {
-            Value::Text(text) => number_in(text.as_slice()),
-            _ => Err(Stop::Raised(Exception::TypeError)),
-        },
+    match value {
+        Value::Text(text) => number_in(text.as_slice()),
         _ => Err(Stop::Raised(Exception::TypeError)),
     }
 }

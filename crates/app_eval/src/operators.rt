@@ -1,10 +1,11 @@
 //! Operators on values.
 
-ghost use Rattle.std.specs.Prelude.{◌≡◌, ◌≢◌, pos, ◌+ℤ◌, ◌-ℤ◌, ◌*ℤ◌, int_div, int_rem};
+ghost use Rattle.std.specs.Prelude.{◌≡◌, ◌≢◌, IfOk, pos, ◌+ℤ◌, ◌-ℤ◌, ◌*ℤ◌, int_div, int_rem};
 ghost use Rattle.app_eval.specs.Gives.{Gives};
 ghost use Rattle.flow_meaning.specs.Operators as meaning;
 ghost use Rattle.flow_base.specs.Values.{fits};
 
+use crate::got::Got;
 use flow_base::{Exception, Items, Names, Text, Value};
 use flow_meaning::Request;
 use script_tree::tree::{SumOp, TermOp};
@@ -34,19 +35,19 @@ impl From<AllocError> for Stop {
 
 /// The number of an Int, or TypeError.
 #[tactic(auto, unfolding(flow_meaning::specs::Operators::int_of))]
-pub fn int_of(value: Value) -> Result<i64, Stop>
-    ensures { Gives result (meaning.int_of value) }
+pub fn int_of(value: &Value) -> Result<i64, Stop>
+    ensures { Gives result (meaning.int_of value.now) }
 {
     match value {
-        Value::Int(n) => Ok(n),
+        Value::Int(n) => Ok(*n),
         _ => Err(Stop::Raised(Exception::TypeError)),
     }
 }
 
 /// An Int with the other sign.
 #[tactic(auto, unfolding(flow_meaning::specs::Operators::negated))]
-pub fn negated(value: Value) -> Result<Value, Stop>
-    ensures { Gives result (meaning.negated value) }
+pub fn negated(value: &Value) -> Result<Value, Stop>
+    ensures { Gives result (meaning.negated value.now) }
 {
     match int_of(value)?.checked_neg() {
         Some(n) => Ok(Value::Int(n)),
@@ -56,8 +57,8 @@ pub fn negated(value: Value) -> Result<Value, Stop>
 
 /// The product, quotient or remainder of two Ints. Division goes toward zero.
 #[tactic(auto, unfolding(flow_meaning::specs::Operators::multiplied))]
-pub fn multiplied(op: TermOp, left: Value, right: Value) -> Result<Value, Stop>
-    ensures { Gives result (meaning.multiplied op left right) }
+pub fn multiplied(op: TermOp, left: &Value, right: &Value) -> Result<Value, Stop>
+    ensures { Gives result (meaning.multiplied op left.now right.now) }
 {
     let a = int_of(left)?;
     let b = int_of(right)?;
@@ -129,60 +130,85 @@ pub fn limited(value: Value) -> Result<Value, Stop>
 
 /// Whether a condition holds: an Int that isn't 0.
 #[tactic(auto, unfolding(flow_meaning::specs::Operators::truth_of, flow_meaning::specs::Operators::int_of))]
-pub fn truth_of(value: Value) -> Result<bool, Stop>
-    ensures { Gives result (meaning.truth_of value) }
+pub fn truth_of(value: &Value) -> Result<bool, Stop>
+    ensures { Gives result (meaning.truth_of value.now) }
 {
     Ok(int_of(value)? != 0)
 }
 
 /// The sum or the difference of two Ints, or two texts or two lists joined.
 #[tactic(auto, unfolding(flow_meaning::specs::Operators::added))]
-pub fn added(op: SumOp, left: Value, right: Value) -> Result<Value, Stop>
-    ensures { Gives result (meaning.added op left right) }
+pub fn added(alloc: Global, op: SumOp, left: Got, right: &Value) -> Result<Value, Stop>
+    ensures { Gives result (meaning.added op left.entry right.now) }
 {
     match op {
-        SumOp::Plus => joined(left, right),
-        SumOp::Minus => difference(left, right),
+        SumOp::Plus => sum(alloc, left, right),
+        SumOp::Minus => difference(left.get(), right),
     }
 }
 
 #[tactic(auto, unfolding(flow_meaning::specs::Operators::added))]
-fn joined(left: Value, right: Value) -> Result<Value, Stop>
-    ensures { Gives result (meaning.added SumOp.Plus left right) }
+fn sum(alloc: Global, left: Got, right: &Value) -> Result<Value, Stop>
+    ensures { Gives result (meaning.added SumOp.Plus left.entry right.now) }
+{
+    match left.get() {
+        Value::Int(a) => match right {
+            Value::Int(b) => plus(*a, *b),
+            _ => Err(Stop::Raised(Exception::TypeError)),
+        },
+        _ => joined(alloc, left.into_value(alloc)?, right),
+    }
+}
+
+/// Two texts or two lists joined.
+#[tactic(auto, unfolding(flow_meaning::specs::Operators::added))]
+fn joined(alloc: Global, left: Value, right: &Value) -> Result<Value, Stop>
+    ensures { Gives result (meaning.added SumOp.Plus left right.now) }
 {
     match left {
         Value::Int(a) => match right {
-            Value::Int(b) => return plus(a, b),
-            _ => return Err(Stop::Raised(Exception::TypeError)),
+            Value::Int(b) => plus(a, *b),
+            _ => Err(Stop::Raised(Exception::TypeError)),
         },
         Value::Text(mut a) => match right {
             Value::Text(b) => {
-                a.append(&b)?;
-                return limited(Value::Text(a));
+                a.append(b)?;
+                limited(Value::Text(a))
             }
-            _ => return Err(Stop::Raised(Exception::TypeError)),
+            _ => Err(Stop::Raised(Exception::TypeError)),
         },
         Value::List(mut a) => match right {
             Value::List(b) => {
-                a.append(b)?;
-                return limited(Value::List(a));
+                a.append(copies(alloc, b.as_slice())?)?;
+                limited(Value::List(a))
             }
-            _ => return Err(Stop::Raised(Exception::TypeError)),
+            _ => Err(Stop::Raised(Exception::TypeError)),
         },
-        _ => return Err(Stop::Raised(Exception::TypeError)),
+        _ => Err(Stop::Raised(Exception::TypeError)),
     }
 }
 
+/// Copies of the values.
+pub fn copies(alloc: Global, values: &[Value]) -> Result<Items, AllocError>
+    ensures { IfOk result (λ copies. copies ≡ values.now) }
+{
+    let mut copies = ListOf::new(alloc);
+    for value in values {
+        copies.push(value.copy(alloc)?)?;
+    }
+    Ok(copies)
+}
+
 #[tactic(auto, unfolding(flow_meaning::specs::Operators::added))]
-fn difference(left: Value, right: Value) -> Result<Value, Stop>
-    ensures { Gives result (meaning.added SumOp.Minus left right) }
+fn difference(left: &Value, right: &Value) -> Result<Value, Stop>
+    ensures { Gives result (meaning.added SumOp.Minus left.now right.now) }
 {
     match left {
         Value::Int(a) => match right {
-            Value::Int(b) => return minus(a, b),
-            _ => return Err(Stop::Raised(Exception::TypeError)),
+            Value::Int(b) => minus(*a, *b),
+            _ => Err(Stop::Raised(Exception::TypeError)),
         },
-        _ => return Err(Stop::Raised(Exception::TypeError)),
+        _ => Err(Stop::Raised(Exception::TypeError)),
     }
 }
 

@@ -1,10 +1,11 @@
 //! Items of lists and bytes of texts, by their places.
 
 ghost use Rattle.std.specs.Prelude.{◌<◌, ◌≤◌, IfOk};
-ghost use Rattle.app_eval.specs.Gives.{Gives};
+ghost use Rattle.app_eval.specs.Gives.{Gives, GivesRef};
 ghost use Rattle.flow_base.specs.declared.value.Value.TheOpen.{Value-F};
 ghost use Rattle.flow_meaning.specs.Operators as meaning;
 
+use crate::got::Got;
 use crate::operators::Stop;
 use flow_base::{Exception, Text, Value};
 use sqlite_items::at;
@@ -45,14 +46,38 @@ pub fn ends_in(from: i64, to: i64, count: usize) -> Result<(usize, usize), Stop>
     }
 }
 
-/// An item of a list, or a text of one byte of a text.
+/// An item of a list, or a text of one byte of a text. An item of a list that is kept is kept.
 #[tactic(auto, unfolding(flow_meaning::specs::Operators::indexed))]
-pub fn indexed(alloc: Global, from: &Value, index: &Value) -> Result<Value, Stop>
+pub fn indexed<'a>(alloc: Global, from: Got<'a>, index: &Value) -> Result<Got<'a>, Stop>
+    ensures { Gives result (meaning.indexed from.entry index.now) }
+{
+    match from.kept_value() {
+        Some(list) => kept_item(alloc, list, index),
+        None => Ok(Got::made(item_of(alloc, from.get(), index)?)),
+    }
+}
+
+/// An item of a value that is kept.
+#[tactic(auto, unfolding(flow_meaning::specs::Operators::indexed))]
+fn kept_item<'a>(alloc: Global, from: &'a Value, index: &Value) -> Result<Got<'a>, Stop>
     ensures { Gives result (meaning.indexed from.now index.now) }
 {
     match from {
         Value::List(items) => match index {
-            Value::Int(i) => item_at(alloc, items.as_slice(), *i),
+            Value::Int(i) => Ok(Got::kept(item_at(items.as_slice(), *i)?)),
+            _ => Err(Stop::Raised(Exception::TypeError)),
+        },
+        _ => Ok(Got::made(item_of(alloc, from, index)?)),
+    }
+}
+
+#[tactic(auto, unfolding(flow_meaning::specs::Operators::indexed))]
+fn item_of(alloc: Global, from: &Value, index: &Value) -> Result<Value, Stop>
+    ensures { Gives result (meaning.indexed from.now index.now) }
+{
+    match from {
+        Value::List(items) => match index {
+            Value::Int(i) => Ok(item_at(items.as_slice(), *i)?.copy(alloc)?),
             _ => Err(Stop::Raised(Exception::TypeError)),
         },
         Value::Text(text) => match index {
@@ -63,12 +88,12 @@ pub fn indexed(alloc: Global, from: &Value, index: &Value) -> Result<Value, Stop
     }
 }
 
-fn item_at(alloc: Global, items: &[Value], index: i64) -> Result<Value, Stop>
-    ensures { Gives result (meaning.item_at (Value-F.List items.now) (Value-F.Int index)) }
+fn item_at(items: &[Value], index: i64) -> Result<&Value, Stop>
+    ensures { GivesRef result (meaning.item_at (Value-F.List items.now) (Value-F.Int index)) }
 {
     let place = place_in(index, items.len())?;
     match at(items, place) {
-        Some(item) => Ok(item.copy(alloc)?),
+        Some(item) => Ok(item),
         None => Err(Stop::Raised(Exception::IndexError)),
     }
 }

@@ -1,6 +1,6 @@
 //! The built-ins that cut and join texts.
 
-ghost use Rattle.std.specs.Prelude.{◌≡◌, ◌++◌, map, nat_eq, All, IfOk};
+ghost use Rattle.std.specs.Prelude.{◌∷◌, [], ◌≡◌, ◌++◌, map, nat_eq, All, IfOk};
 ghost use Rattle.std.specs.List.{slice_split};
 ghost use Rattle.app_eval.specs.Gives.{Gives};
 ghost use Rattle.app_eval.specs.Joins.{behind};
@@ -16,15 +16,12 @@ use std::alloc::{AllocError, Global};
 
 /// The pieces of a text between the bytes of a separator.
 #[tactic(auto, unfolding(flow_meaning::specs::Operators::text_of))]
-pub fn split(alloc: Global, values: &[Value]) -> Result<Value, Stop>
-    ensures { Gives result (m.applied_to BuiltIn.Split values.now) }
+pub fn split(alloc: Global, text: &Value, by: &Value) -> Result<Value, Stop>
+    ensures { Gives result (m.applied_to BuiltIn.Split (text.now ∷ by.now ∷ [])) }
 {
-    match values {
-        [text, by] => match text {
-            Value::Text(text) => match by {
-                Value::Text(by) => split_at(alloc, text.as_slice(), by.as_slice()),
-                _ => Err(Stop::Raised(Exception::TypeError)),
-            },
+    match text {
+        Value::Text(text) => match by {
+            Value::Text(by) => split_at(alloc, text.as_slice(), by.as_slice()),
             _ => Err(Stop::Raised(Exception::TypeError)),
         },
         _ => Err(Stop::Raised(Exception::TypeError)),
@@ -62,20 +59,17 @@ fn pieces(alloc: Global, text: &[u8], separator: u8) -> Result<Items, AllocError
 
 /// The texts of a list with a separator between them.
 #[tactic(auto, unfolding(flow_meaning::specs::Operators::list_of, flow_meaning::specs::Operators::text_of))]
-pub fn concat(alloc: Global, values: &[Value]) -> Result<Value, Stop>
-    ensures { Gives result (m.applied_to BuiltIn.Concat values.now) }
+pub fn concat(alloc: Global, list: &Value, by: &Value) -> Result<Value, Stop>
+    ensures { Gives result (m.applied_to BuiltIn.Concat (list.now ∷ by.now ∷ [])) }
 {
-    match values {
-        [list, by] => match list {
-            Value::List(items) => {
-                let texts = texts_of(alloc, items.as_slice())?;
-                match by {
-                    Value::Text(by) => joined(alloc, by, texts.as_slice()),
-                    _ => Err(Stop::Raised(Exception::TypeError)),
-                }
+    match list {
+        Value::List(items) => {
+            let texts = texts_of(alloc, items.as_slice())?;
+            match by {
+                Value::Text(by) => joined(alloc, by, texts.as_slice()),
+                _ => Err(Stop::Raised(Exception::TypeError)),
             }
-            _ => Err(Stop::Raised(Exception::TypeError)),
-        },
+        }
         _ => Err(Stop::Raised(Exception::TypeError)),
     }
 }

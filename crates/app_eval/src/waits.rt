@@ -1,6 +1,6 @@
 //! The built-ins that ask: what a future or an output has, once its task has ended.
 
-ghost use Rattle.std.specs.Prelude.{◌≡◌, slice_get, IfOk};
+ghost use Rattle.std.specs.Prelude.{◌∷◌, [], ◌≡◌, slice_get, IfOk};
 ghost use Rattle.app_eval.specs.Gives.{Gives, GivesRun};
 ghost use Rattle.app_eval.specs.Waits.{value_asked, name_asked};
 ghost use Rattle.flow_base.specs.declared.value.Value.{out-Value};
@@ -18,30 +18,24 @@ use std::alloc::{AllocError, Global};
 
 /// The value of a future, or the file of an output; or the exception of its task.
 #[tactic(auto, unfolding(flow_meaning::specs::Told::result_of))]
-pub fn result(alloc: Global, values: &[Value], answers: &mut Answers) -> Result<Value, Stop>
-    ensures { GivesRun result answers.new.left.now (run (m.applied_to BuiltIn.Result values.now) answers.old.left.now) }
+pub fn result(alloc: Global, future: &Value, answers: &mut Answers) -> Result<Value, Stop>
+    ensures { GivesRun result answers.new.left.now (run (m.applied_to BuiltIn.Result (future.now ∷ [])) answers.old.left.now) }
 {
-    match values {
-        [future] => match future {
-            Value::Future { .. } => wait_for_value(alloc, future, answers),
-            Value::Output { .. } => wait_for_value(alloc, future, answers),
-            _ => Err(Stop::Raised(Exception::TypeError)),
-        },
+    match future {
+        Value::Future { .. } => wait_for_value(alloc, future, answers),
+        Value::Output { .. } => wait_for_value(alloc, future, answers),
         _ => Err(Stop::Raised(Exception::TypeError)),
     }
 }
 
 /// The name of the exception of a task, or the empty text where it has a value.
 #[tactic(auto, unfolding(flow_meaning::specs::Told::exception_of))]
-pub fn exception(alloc: Global, values: &[Value], answers: &mut Answers) -> Result<Value, Stop>
-    ensures { GivesRun result answers.new.left.now (run (m.applied_to BuiltIn.Exception values.now) answers.old.left.now) }
+pub fn exception(alloc: Global, future: &Value, answers: &mut Answers) -> Result<Value, Stop>
+    ensures { GivesRun result answers.new.left.now (run (m.applied_to BuiltIn.Exception (future.now ∷ [])) answers.old.left.now) }
 {
-    match values {
-        [future] => match future {
-            Value::Future { .. } => wait_for_name(alloc, future, answers),
-            Value::Output { .. } => wait_for_name(alloc, future, answers),
-            _ => Err(Stop::Raised(Exception::TypeError)),
-        },
+    match future {
+        Value::Future { .. } => wait_for_name(alloc, future, answers),
+        Value::Output { .. } => wait_for_name(alloc, future, answers),
         _ => Err(Stop::Raised(Exception::TypeError)),
     }
 }

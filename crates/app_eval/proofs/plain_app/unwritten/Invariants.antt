@@ -1,6 +1,0 @@
-use Rattle.std.proofs.Common.{◌≡◌, ◌++◌, drop}
-use Rattle.flow_meaning.specs.Meaning.{unwritten}
-use Rattle.app_eval.proofs.plain_app.unwritten.Given as goal
-
-abbrev pub invariant-loop-name : goal.invariant-loop-name
-invariant-loop-name l = l.written.items ++ unwritten (drop l._name-index l.names) ≡ unwritten l.names

@@ -1,0 +1,6 @@
+use Rattle.std.proofs.Common.{◌≡◌}
+use Rattle.body_code.specs.Meaning as code
+use Rattle.app_eval.proofs.running.none_set.Given as goal
+
+abbrev pub invariant-loop-slot : goal.invariant-loop-slot
+invariant-loop-slot l = l.slots.items ≡ code.none_set l._slot
