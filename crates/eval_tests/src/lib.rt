@@ -1,5 +1,4 @@
-//! Tests of bodies and walks, with the values, the exceptions and the wants that the language gives
-//! them.
+//! Tests of bodies, with the values and the exceptions that the language gives them.
 #![tactic(auto)]
 
 #[cfg(test)]
@@ -12,5 +11,3 @@ mod expressions;
 mod limits;
 #[cfg(test)]
 mod shown;
-#[cfg(test)]
-mod walks;

@@ -1,0 +1,280 @@
+//! Walks of main and of a join, want by want.
+
+use app_check::checking::check;
+use app_eval::{Reply, Walker, Want};
+use app_script::parse::parse;
+use flow_base::{Ended, Exception, FileOut, Files, Items, Outcome, Path, Text, Value};
+use run_report::lines::print_exception;
+use run_report::value::print_value;
+use script_tree::checked::Checked;
+use sqlite_items::Items as ListOf;
+use std::alloc::{AllocError, Global};
+use std::test::Fail;
+use text_writer::Writer;
+
+fn checked(alloc: Global, bytes: &str) -> Result<Checked, Fail> {
+    Ok(check(alloc, parse(alloc, bytes.as_bytes())?)?)
+}
+
+fn print_values(writer: &mut Writer, values: &[Value]) -> Result<(), AllocError> {
+    for value in values {
+        writer.add(b" ")?;
+        print_value(writer, value)?;
+    }
+    Ok(())
+}
+
+fn print_names(writer: &mut Writer, names: &[Text]) -> Result<(), AllocError> {
+    for name in names {
+        writer.add(b" to ")?;
+        writer.quote(name)?;
+    }
+    Ok(())
+}
+
+fn text(alloc: Global, bytes: &str) -> Result<Text, AllocError> {
+    let mut text = Text::new(alloc);
+    for byte in bytes.as_bytes() {
+        if *byte >= b' ' && *byte <= b'~' {
+            text.push(*byte)?;
+        }
+    }
+    Ok(text)
+}
+
+fn print_ended(writer: &mut Writer, ended: &Ended) -> Result<(), AllocError> {
+    match ended {
+        Ended::Raised(exception) => {
+            writer.add(b"ended exception ")?;
+            print_exception(writer, exception)
+        }
+        Ended::Value { value, .. } => {
+            writer.add(b"ended ")?;
+            print_value(writer, value)
+        }
+    }
+}
+
+fn print_want(writer: &mut Writer, want: &Want) -> Result<(), AllocError> {
+    match want {
+        Want::Call {
+            app,
+            arguments,
+            names,
+        } => {
+            writer.add(b"call ")?;
+            writer.number(*app)?;
+            print_values(writer, arguments.as_slice())?;
+            print_names(writer, names.as_slice())
+        }
+        Want::WaitValue(future) => {
+            writer.add(b"value ")?;
+            print_value(writer, future)
+        }
+        Want::WaitName(future) => {
+            writer.add(b"name ")?;
+            print_value(writer, future)
+        }
+        Want::Print(value) => {
+            writer.add(b"print ")?;
+            print_value(writer, value)
+        }
+        Want::Checkpoint => writer.add(b"checkpoint"),
+        Want::Ended(ended) => print_ended(writer, ended),
+    }
+}
+
+/// What a walk is told.
+#[derive(Clone, Copy)]
+enum Told {
+    Begin,
+    /// The future of the call of this number, with so many outputs.
+    Future(u32, u32),
+    /// A task has this value.
+    Value(i64),
+    /// A task has the value 1 and the files `a` and `b` of the text `t`.
+    Files,
+    /// A task has raised ValueError.
+    Raised,
+    Go,
+}
+
+fn future(alloc: Global, number: u32, outputs: u32) -> Result<Value, AllocError> {
+    let mut path = Path::new(alloc);
+    path.push(number)?;
+    Ok(Value::Future { path, outputs })
+}
+
+fn files(alloc: Global) -> Result<Files, AllocError> {
+    let mut files = ListOf::new(alloc);
+    for name in ["a", "b"] {
+        files.push(FileOut {
+            name: text(alloc, name)?,
+            content: text(alloc, "t")?,
+        })?;
+    }
+    Ok(files)
+}
+
+fn ended(value: i64, files: Files) -> Reply {
+    Reply::Outcome(Outcome::Value {
+        value: Value::Int(value),
+        files,
+    })
+}
+
+fn reply(alloc: Global, told: Told) -> Result<Reply, AllocError> {
+    match told {
+        Told::Begin => Ok(Reply::Begin),
+        Told::Future(number, outputs) => Ok(Reply::Called(future(alloc, number, outputs)?)),
+        Told::Value(value) => Ok(ended(value, ListOf::new(alloc))),
+        Told::Files => Ok(ended(1, files(alloc)?)),
+        Told::Raised => Ok(Reply::Outcome(Outcome::Failed(Exception::ValueError))),
+        Told::Go => Ok(Reply::Go),
+    }
+}
+
+/// The next want after what it is told, as text.
+fn next(alloc: Global, walker: &mut Walker, told: Told) -> Result<String, Fail> {
+    let want = walker.resume(alloc, reply(alloc, told)?)?;
+    let mut writer = Writer::new(alloc);
+    print_want(&mut writer, &want)?;
+    Ok(String::from_utf8(writer.into_bytes())?)
+}
+
+const MAIN: &str = "
+app add(a, b) { return a + b; }
+
+app halves(t) outputs 2 {
+  write 0, t;
+  write 1, t;
+  return 1;
+}
+
+main {
+  let x = call add(1, 2);
+  let h = call halves(\"t\") to (\"a\", \"b\");
+  let s = 0;
+  for i in [call add(s, 1), x] {
+    s = s + result(i);
+    print s;
+  }
+  checkpoint;
+  while exception(output(h, 1)) == \"\" and s < 14 {
+    print result(output(h, 0));
+    s = s + 1;
+  }
+  if s == 14 {
+    print output(h, 1);
+  } else {
+    call add(0, 0);
+  }
+  return x;
+}
+";
+
+const MAIN_WANTS: [(Told, &str); 14] = [
+    (Told::Begin, "call 0 1 2"),
+    (Told::Future(1, 0), "call 1 \"t\" to \"a\" to \"b\""),
+    (Told::Future(2, 2), "call 0 0 1"),
+    (Told::Future(3, 0), "value future 3"),
+    (Told::Value(10), "print 10"),
+    (Told::Go, "value future 1"),
+    (Told::Value(3), "print 13"),
+    (Told::Go, "checkpoint"),
+    (Told::Go, "name output 2 1"),
+    (Told::Files, "value output 2 0"),
+    (Told::Files, "print file(\"a\", \"t\")"),
+    (Told::Go, "name output 2 1"),
+    (Told::Files, "print output 2 1"),
+    (Told::Go, "ended future 1"),
+];
+
+#[test]
+fn main_is_walked_want_by_want(rt: HostRuntime) -> Result<(), Fail> {
+    let alloc = rt.alloc();
+    let script = checked(alloc, MAIN)?;
+    let mut walker = Walker::main(alloc, &script)?;
+    for (told, wanted) in MAIN_WANTS {
+        let given = next(alloc, &mut walker, told)?;
+        assert_eq!(rt; given.as_str(), wanted);
+    }
+    Ok(())
+}
+
+const RAISING: &str = "
+app f() { return 1; }
+
+main {
+  let x = call f();
+  print exception(x);
+  print result(x);
+  print 2;
+}
+";
+
+const RAISING_WANTS: [(Told, &str); 5] = [
+    (Told::Begin, "call 0"),
+    (Told::Future(1, 0), "name future 1"),
+    (Told::Raised, "print \"ValueError\""),
+    (Told::Go, "value future 1"),
+    (Told::Raised, "ended exception ValueError"),
+];
+
+#[test]
+fn main_raises_the_exception_of_a_task(rt: HostRuntime) -> Result<(), Fail> {
+    let alloc = rt.alloc();
+    let script = checked(alloc, RAISING)?;
+    let mut walker = Walker::main(alloc, &script)?;
+    for (told, wanted) in RAISING_WANTS {
+        let given = next(alloc, &mut walker, told)?;
+        assert_eq!(rt; given.as_str(), wanted);
+    }
+    Ok(())
+}
+
+const JOIN: &str = "
+app half(n) { return n / 2; }
+
+join app halves(n) {
+  let all = [];
+  for i in range(0, n) {
+    if i % 2 == 0 {
+      all = append(all, call half(i));
+    }
+  }
+  return all;
+}
+
+main { }
+";
+
+const JOIN_WANTS: [(Told, &str); 4] = [
+    (Told::Begin, "call 0 0"),
+    (Told::Future(1, 0), "call 0 2"),
+    (Told::Future(2, 0), "call 0 4"),
+    (Told::Future(3, 0), "ended [future 1, future 2, future 3]"),
+];
+
+fn five(alloc: Global) -> Result<Items, AllocError> {
+    let mut arguments = ListOf::new(alloc);
+    arguments.push(Value::Int(5))?;
+    Ok(arguments)
+}
+
+#[test]
+fn a_join_is_walked_call_by_call(rt: HostRuntime) -> Result<(), Fail> {
+    let alloc = rt.alloc();
+    let script = checked(alloc, JOIN)?;
+    let count = script.script().apps().len();
+    assert_eq!(rt; count, 2);
+    if count != 2 {
+        return Ok(());
+    }
+    let mut walker = Walker::body(alloc, &script, 1, five(alloc)?)?;
+    for (told, wanted) in JOIN_WANTS {
+        let given = next(alloc, &mut walker, told)?;
+        assert_eq!(rt; given.as_str(), wanted);
+    }
+    Ok(())
+}
