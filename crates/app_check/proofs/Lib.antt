@@ -1,9 +1,9 @@
 pub mod Least
 pub mod Seeing
-pub mod Keys
 pub mod Equations
 pub mod Atoms
 pub mod Statements
 pub mod Definitions
 pub mod Faults
 pub mod Names
+pub mod Lengths

@@ -6,9 +6,10 @@ use Rattle.std.proofs.Math.Seq.{take-append_seam}
 use Rattle.std.proofs.lemmas.List.{take-append-le}
 use Rattle.std.proofs.lemmas.List.Folds.{list_any-append}
 use Rattle.std.proofs.lemmas.Slice.Eq.{bytes_eq-Decides}
-use Rattle.script_tree.specs.Marks.{Name, Mark, Opens, Closes, Shows, Takes, Defines, Main}
+use Rattle.script_tree.specs.Marks.{Name, Mark, Opens, Closes, MakesVisible, Takes, Defines, Main}
 use Rattle.script_tree.specs.Rules as rules
-use Rattle.app_check.specs.Seeing.{Seen, is_among, with_name, innermost, behind}
+use Rattle.app_index.specs.Names.{is_among, with_name}
+use Rattle.app_check.specs.Seeing.{Seen, innermost, behind}
 
 -- ---- more names
 
@@ -124,7 +125,7 @@ fits_shown (s ∷ ss) names (n ∷ ns) name h =
 pub fits_behind : (m : Mark) (s : rules.State) (z : Seen) → Fits s.scopes z.visible z.outer → Fits (rules.behind m s).scopes (behind m z).visible (behind m z).outer
 fits_behind (Opens names) s z h = fits_opened s.scopes z.visible names z.outer h
 fits_behind Closes s z h = fits_closed s.scopes z.visible z.outer h
-fits_behind (Shows name) s z h = fits_shown s.scopes z.visible z.outer name h
+fits_behind (MakesVisible name) s z h = fits_shown s.scopes z.visible z.outer name h
 fits_behind (Takes k name) s z h = fits_shown s.scopes z.visible z.outer name h
 fits_behind (Defines k a) s z h = λ x. refl
 fits_behind Main s z h = refl
@@ -135,6 +136,6 @@ body_behind (Defines k a) s z h = refl
 body_behind Main s z h = refl
 body_behind (Opens names) s z h = h
 body_behind Closes s z h = h
-body_behind (Shows name) s z h = h
+body_behind (MakesVisible name) s z h = h
 body_behind (Takes k name) s z h = h
 body_behind _ s z h = h

@@ -2,7 +2,7 @@
 use Rattle.std.proofs.Common.{◌≡◌, [], ◌∷◌, ◌++◌, Option, Some, None, refl, ap, sym, ◌∙◌}
 use Rattle.script_tree.specs.Folds.{fold_block, fold_statement}
 use Rattle.script_tree.specs.Marks as marks
-use Rattle.script_tree.specs.Marks.{Name, Marks, Other, News}
+use Rattle.script_tree.specs.Marks.{Name, Marks, Other, Declares}
 use Rattle.script_tree.specs.declared.tree.Block.{Block}
 use Rattle.script_tree.specs.declared.tree.Expr.{Expr}
 use Rattle.script_tree.specs.declared.tree.Statement.{Statement, fold-roll-Statement}
@@ -15,7 +15,7 @@ unfolding fold_block fold_statement
 while_marks statement e b is = rw (is, ← rolls-While e b, fold-roll-Statement) refl
 
 for_marks : (statement : Statement) (name : Name) (e : Expr) (b : Block) → statement ≡ For name e b
-    → fold_statement marks.block_marks statement [] ≡ Other ∷ News name ∷ Other ∷ marks.expr e ++ fold_block marks.block_marks b (name ∷ [])
+    → fold_statement marks.block_marks statement [] ≡ Other ∷ Declares name ∷ Other ∷ marks.expr e ++ fold_block marks.block_marks b (name ∷ [])
 unfolding fold_block fold_statement
 for_marks statement name e b is = rw (is, ← rolls-For name e b, fold-roll-Statement) refl
 
@@ -35,10 +35,10 @@ while_seen statement e b shown z between new is same first next =
     rw (next, same, first) (sym (ap (seen z) (while_marks statement e b is) ∙ seen_more z (Other ∷ marks.expr e) (marks.block b)))
 
 pub for_seen : (statement : Statement) (name : Name) (e : Expr) (b shown : Block) (z between new : Seen) → statement ≡ For name e b → shown ≡ b
-    → between ≡ seen z (Other ∷ News name ∷ Other ∷ marks.expr e) → new ≡ seen between (fold_block marks.block_marks shown (name ∷ []))
+    → between ≡ seen z (Other ∷ Declares name ∷ Other ∷ marks.expr e) → new ≡ seen between (fold_block marks.block_marks shown (name ∷ []))
     → new ≡ seen z (fold_statement marks.block_marks statement [])
 for_seen statement name e b shown z between new is same first next =
-    rw (next, same, first) (sym (ap (seen z) (for_marks statement name e b is) ∙ seen_more z (Other ∷ News name ∷ Other ∷ marks.expr e) (fold_block marks.block_marks b (name ∷ []))))
+    rw (next, same, first) (sym (ap (seen z) (for_marks statement name e b is) ∙ seen_more z (Other ∷ Declares name ∷ Other ∷ marks.expr e) (fold_block marks.block_marks b (name ∷ []))))
 
 pub if_seen : (statement : Statement) (e : Expr) (b shown : Block) (rest : Option Block) (z between new : Seen) → statement ≡ If e b rest → rest ≡ None → shown ≡ b
     → between ≡ seen z (Other ∷ marks.expr e) → new ≡ seen between (marks.block shown) → new ≡ seen z (fold_statement marks.block_marks statement [])

@@ -2,8 +2,13 @@
 use Rattle.std.specs.Prelude.{ℕ, Bool, ◌&&◌, ◌||◌, if◌then◌else◌, List, [], ◌∷◌, ◌++◌, length, take, drop, fold, Option, Some, None, nat_eq, nat_lt, bytes_eq, get_or}
 use Rattle.std.specs.List.{list_any}
 use Rattle.script_tree.specs.declared.tree.AppDef.{AppDef}
-use Rattle.script_tree.specs.Marks.{Name, Mark, Opens, Closes, Shows, Defines, Takes, Main, Marks}
-use Rattle.script_tree.specs.Rules.{Body, OfMain, State, body_of, faults_at}
+use Rattle.script_tree.specs.Marks.{Name, Mark, Opens, Closes, MakesVisible, Defines, Takes, Main, Marks}
+use Rattle.script_tree.specs.declared.body_kind.BodyKind.{BodyKind}
+use Rattle.script_tree.specs.declared.body_kind.BodyKind.TheVariants.{OfMain}
+use Rattle.script_tree.specs.declared.fault.Rule.{Rule}
+use Rattle.script_tree.specs.Faults.{rule_number}
+use Rattle.script_tree.specs.Rules.{State, body_of, faults_at}
+use Rattle.app_index.specs.Names.{with_name}
 
 pub record Seen : Type 0 where
   -- the apps of the script
@@ -14,18 +19,11 @@ pub record Seen : Type 0 where
   pub visible : List Name
   -- for each open block, the innermost first, how many names were visible where it began
   pub outer : List ℕ
-  pub body : Body
-  -- the place and the kind of the least fault
-  pub least : Option (ℕ × ℕ)
+  pub body : BodyKind
+  -- the place of the least fault and the rule that is broken there
+  pub least : Option (ℕ × Rule)
 
 -- ---- names
-
-abbrev pub is_among : List Name → Name → Bool
-is_among names name = list_any (bytes_eq name) names
-
--- behind the others, where it isn't there
-abbrev pub with_name : List Name → Name → List Name
-with_name names name = if is_among names name then names else names ++ name ∷ []
 
 abbrev pub shows : Name → Seen → Seen
 shows name z = record z { visible = with_name z.visible name }
@@ -41,15 +39,16 @@ innermost (n ∷ ns) = n
 abbrev pub closes : Seen → Seen
 closes z = record z { visible = take (innermost z.outer) z.visible; outer = drop 1 z.outer }
 
-abbrev pub begins : Body → Seen → Seen
+abbrev pub begins : BodyKind → Seen → Seen
 begins body z = record z { visible = []; outer = []; body = body }
 
 -- ---- faults
 
-abbrev pub is_less : ℕ × ℕ → ℕ × ℕ → Bool
-is_less f g = nat_lt f.0 g.0 || (nat_eq f.0 g.0 && nat_lt f.1 g.1)
+-- by place, and at one place by the number of the rule
+abbrev pub is_less : ℕ × Rule → ℕ × Rule → Bool
+is_less f g = nat_lt f.0 g.0 || (nat_eq f.0 g.0 && nat_lt (rule_number f.1) (rule_number g.1))
 
-abbrev pub lesser : Option (ℕ × ℕ) → ℕ × ℕ → Option (ℕ × ℕ)
+abbrev pub lesser : Option (ℕ × Rule) → ℕ × Rule → Option (ℕ × Rule)
 lesser None f = Some f
 lesser (Some g) f = if is_less f g then Some f else Some g
 
@@ -57,11 +56,11 @@ lesser (Some g) f = if is_less f g then Some f else Some g
 abbrev pub place_of : Seen → ℕ
 place_of z = get_or z.places 0 0
 
-abbrev pub notes : ℕ → Seen → Seen
-notes kind z = record z { least = lesser z.least (place_of z, kind) }
+abbrev pub notes : Rule → Seen → Seen
+notes broken z = record z { least = lesser z.least (place_of z, broken) }
 
-abbrev pub all_noted : Seen → List ℕ → Seen
-all_noted = fold (λ z kind. notes kind z)
+abbrev pub all_noted : Seen → List Rule → Seen
+all_noted = fold (λ z broken. notes broken z)
 
 -- the names and the body, as the rules see them
 abbrev pub state_of : Seen → State
@@ -75,7 +74,7 @@ passes z = record z { places = drop 1 z.places }
 abbrev pub behind : Mark → Seen → Seen
 behind (Opens names) z = opens names z
 behind Closes z = closes z
-behind (Shows name) z = shows name z
+behind (MakesVisible name) z = shows name z
 behind (Takes k name) z = shows name z
 behind (Defines k a) z = begins (body_of a) z
 behind Main z = begins OfMain z

@@ -2,22 +2,22 @@
 
 ghost use Rattle.std.specs.Prelude.{◌≡◌, ◌++◌, OnOk};
 ghost use Rattle.script_tree.specs.BuiltIns.{built_in_named};
-ghost use Rattle.script_tree.specs.Marks.{Acts, Applies, Calls, Closes, Defines, HasOutputs, Joins, Main, Names, News, Opens, Other, Outputs, Shows, Takes, Uses, Writes};
-ghost use Rattle.script_tree.specs.Rules.{app_named, built_in_faults, call_faults, is_visible, kind_if};
+ghost use Rattle.script_tree.specs.Marks.{MainOnly, Applies, Calls, Closes, Defines, HasOutputs, Joins, Main, NamesApp, Declares, Opens, Other, Outputs, MakesVisible, Takes, Uses, Writes};
+ghost use Rattle.script_tree.specs.Rules.{app_named, built_in_faults, call_faults, is_visible, broken_if};
 ghost use Rattle.app_check.specs.Seeing as seeing;
 ghost use Rattle.app_check.specs.Seeing.{all_noted, nothing_seen, see, state_of};
-ghost use Rattle.app_check.specs.Bodies.{body_seen, names_of};
+ghost use Rattle.app_check.specs.Bodies.{names_of};
 
-use crate::body::Body;
 use crate::fault::{Fault, lesser};
-use crate::kinds;
 use crate::outer::Outer;
-use crate::rules::{MAX_COUNT, is_count, is_long, outputs_of, waits};
-use crate::visible::Visible;
-use app_numbers::Apps;
+use crate::rules::{
+    MAX_COUNT, body_of, is_count, is_join, is_long, is_main, is_plain, outputs_of, waits,
+};
+use app_index::{Apps, NameTable};
 use flow_base::Text;
 use script_tree::built_ins::{arity, named};
 use script_tree::tree::AppDef;
+use script_tree::{BodyKind, Rule};
 use std::alloc::{AllocError, Global};
 use std::marker::Model;
 
@@ -27,9 +27,9 @@ pub struct Checker<'a> {
     apps: Apps<'a>,
     // of the tokens to come
     places: &'a [u32],
-    visible: Visible<'a>,
+    visible: NameTable<'a>,
     outer: Outer,
-    body: Body,
+    body: BodyKind,
     least: Option<Fault>,
 }
 
@@ -39,13 +39,12 @@ impl<'a> Model for Checker<'a> {
     ghost use Rattle.script_tree.specs.contracts.tree.Expr as expr;
     ghost use Rattle.script_tree.specs.contracts.tree.CallExpr as call;
     ghost use Rattle.app_check.specs.Seeing.{Seen};
-    ghost use Rattle.app_check.specs.Bodies.{body_seen};
 
     ghost Value = { Seen };
 
     ghost coded = { Prim.hlevel (codes, statement.the_row.coded, expr.the_row.coded, call.the_row.coded) };
 
-    ghost view = { λ c. record { apps = c.apps; places = c.places.now; visible = c.visible; outer = c.outer; body = body_seen c.body; least = c.least } };
+    ghost view = { λ c. record { apps = c.apps; places = c.places.now; visible = c.visible; outer = c.outer; body = c.body; least = c.least } };
 }
 
 impl<'a> Checker<'a> {
@@ -56,14 +55,14 @@ impl<'a> Checker<'a> {
         Checker {
             apps,
             places,
-            visible: Visible::new(alloc),
+            visible: NameTable::new(alloc),
             outer: Outer::new(alloc),
-            body: Body::OfMain,
+            body: BodyKind::OfMain,
             least: None,
         }
     }
 
-    /// The place and the kind of the least fault.
+    /// The least fault: its place, and the rule that is broken there.
     pub fn least(&self) -> Option<Fault>
         ensures { result ≡ self.now.least }
     {
@@ -80,20 +79,20 @@ impl<'a> Checker<'a> {
         }
     }
 
-    // The next token has this fault, where it holds.
-    fn note(&mut self, holds: bool, kind: u8)
-        ensures { self.new ≡ all_noted self.old (kind_if holds kind) }
+    // The rule is broken at the next token, where it holds.
+    fn note(&mut self, holds: bool, rule: Rule)
+        ensures { self.new ≡ all_noted self.old (broken_if holds rule) }
     {
         if holds {
             let place = self.place();
-            self.least = Some(lesser(self.least, (place, kind)));
+            self.least = Some(lesser(self.least, (place, rule)));
         }
     }
 
-    fn note_both(&mut self, holds: bool, kind: u8, other_holds: bool, other: u8)
-        ensures { self.new ≡ all_noted self.old (kind_if holds kind ++ kind_if other_holds other) }
+    fn note_both(&mut self, holds: bool, rule: Rule, other_holds: bool, other: Rule)
+        ensures { self.new ≡ all_noted self.old (broken_if holds rule ++ broken_if other_holds other) }
     {
-        self.note(holds, kind);
+        self.note(holds, rule);
         self.note(other_holds, other);
     }
 
@@ -106,7 +105,7 @@ impl<'a> Checker<'a> {
         }
     }
 
-    fn sees(&self, name: &Text) -> bool
+    fn is_visible(&self, name: &Text) -> bool
         ensures { result ≡ is_visible name.now (state_of self.now) }
     {
         self.visible.has(name.as_str())
@@ -115,7 +114,8 @@ impl<'a> Checker<'a> {
     fn show(&mut self, name: &'a Text) -> Result<(), AllocError>
         ensures { OnOk result (self.new ≡ seeing.shows name.now self.old) }
     {
-        self.visible.add(name.as_str())
+        self.visible.insert(name.as_str())?;
+        Ok(())
     }
 
     fn open(&mut self, name: Option<&'a Text>) -> Result<(), AllocError>
@@ -124,21 +124,21 @@ impl<'a> Checker<'a> {
         self.outer.push(self.visible.len())?;
         match name {
             None => Ok(()),
-            Some(name) => self.visible.add(name.as_str()),
+            Some(name) => self.show(name),
         }
     }
 
-    fn begin(&mut self, body: Body)
-        ensures { self.new ≡ seeing.begins (body_seen body) self.old }
+    fn begin(&mut self, body: BodyKind)
+        ensures { self.new ≡ seeing.begins body self.old }
     {
-        self.visible.keep(0);
+        self.visible.truncate(0);
         self.outer.clear();
         self.body = body;
     }
 
     /// A token of which nothing is asked.
     #[tactic(auto, unfolding(crate::specs::Seeing::see))]
-    pub fn other(&mut self)
+    pub fn pass_other(&mut self)
         ensures { self.new ≡ see self.old Other }
     {
         self.pass();
@@ -146,7 +146,7 @@ impl<'a> Checker<'a> {
 
     /// `{`, behind which a name may be visible.
     #[tactic(auto, unfolding(crate::specs::Seeing::see))]
-    pub fn opens(&mut self, name: Option<&'a Text>) -> Result<(), AllocError>
+    pub fn open_block(&mut self, name: Option<&'a Text>) -> Result<(), AllocError>
         ensures { OnOk result (self.new ≡ see self.old (Opens (names_of name.entry))) }
     {
         self.open(name)?;
@@ -156,28 +156,28 @@ impl<'a> Checker<'a> {
 
     /// `}`.
     #[tactic(auto, unfolding(crate::specs::Seeing::see))]
-    pub fn closes(&mut self)
+    pub fn close_block(&mut self)
         ensures { self.new ≡ see self.old Closes }
     {
         let count = self.outer.pop();
-        self.visible.keep(count);
+        self.visible.truncate(count);
         self.pass();
     }
 
     /// The name of a variable in its declaration.
     #[tactic(auto, unfolding(crate::specs::Seeing::see))]
-    pub fn news(&mut self, name: &Text)
-        ensures { self.new ≡ see self.old (News name.now) }
+    pub fn declare(&mut self, name: &Text)
+        ensures { self.new ≡ see self.old (Declares name.now) }
     {
-        let sees = self.sees(name);
-        self.note(sees, kinds::REPEATED);
+        let visible = self.is_visible(name);
+        self.note(visible, Rule::Repeated);
         self.pass();
     }
 
     /// A token behind which a variable is visible.
     #[tactic(auto, unfolding(crate::specs::Seeing::see))]
-    pub fn shows(&mut self, name: &'a Text) -> Result<(), AllocError>
-        ensures { OnOk result (self.new ≡ see self.old (Shows name.now)) }
+    pub fn make_visible(&mut self, name: &'a Text) -> Result<(), AllocError>
+        ensures { OnOk result (self.new ≡ see self.old (MakesVisible name.now)) }
     {
         self.show(name)?;
         self.pass();
@@ -186,11 +186,11 @@ impl<'a> Checker<'a> {
 
     /// A variable that is used or set.
     #[tactic(auto, unfolding(crate::specs::Seeing::see))]
-    pub fn uses(&mut self, name: &Text)
+    pub fn use_variable(&mut self, name: &Text)
         ensures { self.new ≡ see self.old (Uses name.now) }
     {
-        let sees = self.sees(name);
-        self.note(!sees, kinds::UNKNOWN_NAME);
+        let visible = self.is_visible(name);
+        self.note(!visible, Rule::UnknownName);
         self.pass();
     }
 
@@ -198,14 +198,14 @@ impl<'a> Checker<'a> {
         ensures { self.new ≡ all_noted self.old (built_in_faults (state_of self.old) (built_in_named name.now) count) }
     {
         match named(name) {
-            None => self.note(true, kinds::UNKNOWN_NAME),
+            None => self.note(true, Rule::UnknownName),
             Some(built_in) => {
-                let misplaced = waits(built_in) && !self.body.is_main();
+                let misplaced = waits(built_in) && !is_main(self.body);
                 self.note_both(
                     arity(built_in) != count,
-                    kinds::ARITY,
+                    Rule::Arity,
                     misplaced,
-                    kinds::WAIT_OUTSIDE_MAIN,
+                    Rule::WaitOutsideMain,
                 );
             }
         }
@@ -213,7 +213,7 @@ impl<'a> Checker<'a> {
 
     /// A built-in's name, with so many arguments.
     #[tactic(auto, unfolding(crate::specs::Seeing::see))]
-    pub fn applies(&mut self, name: &Text, count: usize)
+    pub fn apply_built_in(&mut self, name: &Text, count: usize)
         ensures { self.new ≡ see self.old (Applies name.now count) }
     {
         self.note_built_in(name, count);
@@ -222,10 +222,10 @@ impl<'a> Checker<'a> {
 
     /// `call`.
     #[tactic(auto, unfolding(crate::specs::Seeing::see))]
-    pub fn calls(&mut self)
+    pub fn call(&mut self)
         ensures { self.new ≡ see self.old Calls }
     {
-        self.note(self.body.is_plain(), kinds::CALL_IN_APP);
+        self.note(is_plain(self.body), Rule::CallInApp);
         self.pass();
     }
 
@@ -233,14 +233,14 @@ impl<'a> Checker<'a> {
         ensures { self.new ≡ all_noted self.old (call_faults (app_named self.old.apps name.now) count names) }
     {
         match self.apps.named(name.as_str()) {
-            None => self.note(true, kinds::UNKNOWN_APP),
+            None => self.note(true, Rule::UnknownApp),
             Some(app) => {
                 let outputs = outputs_of(app.outputs);
                 self.note_both(
                     app.parameters.len() != count,
-                    kinds::ARITY,
+                    Rule::Arity,
                     outputs != names as u64,
-                    kinds::OUTPUTS,
+                    Rule::Outputs,
                 );
             }
         }
@@ -248,8 +248,8 @@ impl<'a> Checker<'a> {
 
     /// The name of the app that is called, with so many arguments and names.
     #[tactic(auto, unfolding(crate::specs::Seeing::see))]
-    pub fn names(&mut self, name: &Text, count: usize, names: usize)
-        ensures { self.new ≡ see self.old (Names name.now count names) }
+    pub fn call_app(&mut self, name: &Text, count: usize, names: usize)
+        ensures { self.new ≡ see self.old (NamesApp name.now count names) }
     {
         self.note_call(name, count, names);
         self.pass();
@@ -257,51 +257,56 @@ impl<'a> Checker<'a> {
 
     /// `print` or `checkpoint`.
     #[tactic(auto, unfolding(crate::specs::Seeing::see))]
-    pub fn acts(&mut self)
-        ensures { self.new ≡ see self.old Acts }
+    pub fn main_only(&mut self)
+        ensures { self.new ≡ see self.old MainOnly }
     {
-        self.note(!self.body.is_main(), kinds::WAIT_OUTSIDE_MAIN);
+        self.note(!is_main(self.body), Rule::WaitOutsideMain);
         self.pass();
     }
 
     /// `write`.
     #[tactic(auto, unfolding(crate::specs::Seeing::see))]
-    pub fn writes(&mut self)
+    pub fn write(&mut self)
         ensures { self.new ≡ see self.old Writes }
     {
-        self.note(!self.body.is_plain(), kinds::OUTPUTS);
+        self.note(!is_plain(self.body), Rule::Outputs);
         self.pass();
     }
 
     /// The `join` of an app.
     #[tactic(auto, unfolding(crate::specs::Seeing::see))]
-    pub fn joins(&mut self, cached: bool)
+    pub fn join(&mut self, cached: bool)
         ensures { self.new ≡ see self.old (Joins cached) }
     {
-        self.note(cached, kinds::CACHED_JOIN);
+        self.note(cached, Rule::CachedJoin);
         self.pass();
     }
 
     /// The name of an app, before which so many were defined.
     #[tactic(auto, unfolding(crate::specs::Seeing::see))]
-    pub fn defines(&mut self, alloc: Global, number: usize, app: &AppDef) -> Result<(), AllocError>
+    pub fn define_app(
+        &mut self,
+        alloc: Global,
+        number: usize,
+        app: &AppDef,
+    ) -> Result<(), AllocError>
         ensures { OnOk result (self.new ≡ see self.old (Defines number app.now)) }
     {
         let taken = self.apps.is_taken(app.name.as_str(), number);
         let long = is_long(alloc, app)?;
-        self.note_both(taken, kinds::REPEATED, long, kinds::CACHED_TOO_LONG);
-        self.begin(Body::of(app));
+        self.note_both(taken, Rule::Repeated, long, Rule::CachedTooLong);
+        self.begin(body_of(app));
         self.pass();
         Ok(())
     }
 
     /// A parameter, before which there are so many.
     #[tactic(auto, unfolding(crate::specs::Seeing::see))]
-    pub fn takes(&mut self, number: usize, name: &'a Text) -> Result<(), AllocError>
+    pub fn take_parameter(&mut self, number: usize, name: &'a Text) -> Result<(), AllocError>
         ensures { OnOk result (self.new ≡ see self.old (Takes number name.now)) }
     {
-        let sees = self.sees(name);
-        self.note_both(number == MAX_COUNT, kinds::ARITY, sees, kinds::REPEATED);
+        let visible = self.is_visible(name);
+        self.note_both(number == MAX_COUNT, Rule::Arity, visible, Rule::Repeated);
         self.show(name)?;
         self.pass();
         Ok(())
@@ -309,28 +314,28 @@ impl<'a> Checker<'a> {
 
     /// `outputs`.
     #[tactic(auto, unfolding(crate::specs::Seeing::see))]
-    pub fn has_outputs(&mut self)
+    pub fn declare_outputs(&mut self)
         ensures { self.new ≡ see self.old HasOutputs }
     {
-        self.note(self.body.is_join(), kinds::OUTPUTS);
+        self.note(is_join(self.body), Rule::Outputs);
         self.pass();
     }
 
     /// How many outputs an app has.
     #[tactic(auto, unfolding(crate::specs::Seeing::see))]
-    pub fn outputs(&mut self, count: i64)
+    pub fn output_count(&mut self, count: i64)
         ensures { self.new ≡ see self.old (Outputs count) }
     {
-        self.note(!is_count(count), kinds::OUTPUTS);
+        self.note(!is_count(count), Rule::Outputs);
         self.pass();
     }
 
     /// `main`.
     #[tactic(auto, unfolding(crate::specs::Seeing::see))]
-    pub fn main(&mut self)
+    pub fn begin_main(&mut self)
         ensures { self.new ≡ see self.old Main }
     {
-        self.begin(Body::OfMain);
+        self.begin(BodyKind::OfMain);
         self.pass();
     }
 }

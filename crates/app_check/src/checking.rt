@@ -6,7 +6,8 @@ ghost use Rattle.app_check.specs.Checking.{Checks, least_of};
 use crate::checker::Checker;
 use crate::definition::see_script;
 use crate::fault::Fault;
-use app_numbers::Apps;
+use app_index::Apps;
+use script_tree::Rule;
 use script_tree::checked::Checked;
 use script_tree::script::Script;
 use std::alloc::{AllocError, Global};
@@ -15,9 +16,9 @@ use thiserror::Error;
 /// Why a script was not accepted.
 #[derive(Debug, Drop, Error)]
 pub enum CheckFault {
-    /// The rule of this kind, from 1 to 9, is broken at the token of this place.
-    #[error("rule {kind} is broken at byte {place}")]
-    Refused { kind: u8, place: u32 },
+    /// The rule is broken at the token of this place.
+    #[error("rule {} is broken at byte {place}", kind.number())]
+    Refused { kind: Rule, place: u32 },
     #[error("out of memory")]
     NoMemory,
 }
@@ -48,7 +49,7 @@ fn least_fault(alloc: Global, script: &Script) -> Result<Option<Fault>, AllocErr
 }
 
 /// Accepts a script that breaks no static rule; else tells the broken rule at the least place, and
-/// there the one of the least kind.
+/// there that of the least number.
 pub fn check(alloc: Global, script: Script) -> Result<Checked, CheckFault>
     ensures { Checks script result }
 {

@@ -16,10 +16,10 @@ fn see_names<'a>(checker: &mut Checker<'a>, names: &'a [Name]) -> Result<(), All
     ensures { OnOk result (checker.new ≡ seen checker.old (marks.listed (marks.parameters_from 0 names.now))) }
 {
     if let Some((first, rest)) = names.split_first() {
-        checker.takes(0, first)?;
+        checker.take_parameter(0, first)?;
         for (before, name) in rest.iter().enumerate() {
-            checker.other();
-            checker.takes(before + 1, name)?;
+            checker.pass_other();
+            checker.take_parameter(before + 1, name)?;
         }
     }
     Ok(())
@@ -29,9 +29,9 @@ fn see_names<'a>(checker: &mut Checker<'a>, names: &'a [Name]) -> Result<(), All
 fn see_parameters<'a>(checker: &mut Checker<'a>, names: &'a [Name]) -> Result<(), AllocError>
     ensures { OnOk result (checker.new ≡ seen checker.old (marks.in_parens (marks.listed (marks.parameters_from 0 names.now)))) }
 {
-    checker.other();
+    checker.pass_other();
     see_names(checker, names)?;
-    checker.other();
+    checker.pass_other();
     Ok(())
 }
 
@@ -42,8 +42,8 @@ fn see_outputs(checker: &mut Checker<'_>, outputs: Option<i64>)
     match outputs {
         None => {}
         Some(count) => {
-            checker.has_outputs();
-            checker.outputs(count);
+            checker.declare_outputs();
+            checker.output_count(count);
         }
     }
 }
@@ -53,7 +53,7 @@ fn see_cached(checker: &mut Checker<'_>, cached: bool)
     ensures { checker.new ≡ seen checker.old (marks.when cached Other) }
 {
     if cached {
-        checker.other();
+        checker.pass_other();
     }
 }
 
@@ -62,7 +62,7 @@ fn see_join(checker: &mut Checker<'_>, join: bool, cached: bool)
     ensures { checker.new ≡ seen checker.old (marks.when join (Joins cached)) }
 {
     if join {
-        checker.joins(cached);
+        checker.join(cached);
     }
 }
 
@@ -78,8 +78,8 @@ fn see_head(
 {
     see_cached(checker, app.cached);
     see_join(checker, app.join, app.cached);
-    checker.other();
-    checker.defines(alloc, number, app)
+    checker.pass_other();
+    checker.define_app(alloc, number, app)
 }
 
 // An app, before which so many were defined.
@@ -123,6 +123,6 @@ pub fn see_script<'a>(
     ensures { OnOk result (checker.new ≡ seen checker.old (marks.script (apps.now, main.now))) }
 {
     see_apps(checker, alloc, apps)?;
-    checker.main();
+    checker.begin_main();
     see_block(checker, main, None)
 }

@@ -16,7 +16,7 @@ pub fn see_expr(checker: &mut Checker<'_>, e: &Expr)
 {
     see_conj(checker, &e.first);
     for other in e.others.as_slice() {
-        checker.other();
+        checker.pass_other();
         see_conj(checker, other);
     }
 }
@@ -28,7 +28,7 @@ fn see_conj(checker: &mut Checker<'_>, e: &Conj)
 {
     see_comp(checker, &e.first);
     for other in e.others.as_slice() {
-        checker.other();
+        checker.pass_other();
         see_comp(checker, other);
     }
 }
@@ -40,7 +40,7 @@ fn see_comp(checker: &mut Checker<'_>, e: &Comp)
 {
     see_sum(checker, &e.left);
     if let Some(test) = &e.test {
-        checker.other();
+        checker.pass_other();
         see_sum(checker, &test.right);
     }
 }
@@ -52,7 +52,7 @@ fn see_sum(checker: &mut Checker<'_>, e: &Sum)
 {
     see_term(checker, &e.first);
     for other in e.others.as_slice() {
-        checker.other();
+        checker.pass_other();
         see_term(checker, &other.term);
     }
 }
@@ -64,7 +64,7 @@ fn see_term(checker: &mut Checker<'_>, e: &Term)
 {
     see_unary(checker, &e.first);
     for other in e.others.as_slice() {
-        checker.other();
+        checker.pass_other();
         see_unary(checker, &other.unary);
     }
 }
@@ -75,7 +75,7 @@ fn see_sign(checker: &mut Checker<'_>, op: Option<UnaryOp>)
 {
     match op {
         None => {}
-        Some(_) => checker.other(),
+        Some(_) => checker.pass_other(),
     }
 }
 
@@ -105,12 +105,12 @@ fn see_atom(checker: &mut Checker<'_>, e: &Atom)
     ensures { checker.new ≡ seen checker.old (fold_atom marks.expr_marks e.now) }
 {
     match e {
-        Atom::Number(_) => checker.other(),
-        Atom::Text(_) => checker.other(),
-        Atom::Nothing => checker.other(),
-        Atom::Variable(name) => checker.uses(name),
+        Atom::Number(_) => checker.pass_other(),
+        Atom::Text(_) => checker.pass_other(),
+        Atom::Nothing => checker.pass_other(),
+        Atom::Variable(name) => checker.use_variable(name),
         Atom::BuiltIn(name, arguments) => {
-            checker.applies(name, arguments.len());
+            checker.apply_built_in(name, arguments.len());
             see_items(checker, arguments.as_slice());
         }
         Atom::Call(call) => see_call(checker, call.get()),
@@ -125,9 +125,9 @@ fn see_atom(checker: &mut Checker<'_>, e: &Atom)
 fn see_paren(checker: &mut Checker<'_>, e: &Expr)
     ensures { checker.new ≡ seen checker.old (marks.in_parens (marks.expr e.now)) }
 {
-    checker.other();
+    checker.pass_other();
     see_expr(checker, e);
-    checker.other();
+    checker.pass_other();
 }
 
 #[cycle(expression)]
@@ -135,9 +135,9 @@ fn see_paren(checker: &mut Checker<'_>, e: &Expr)
 fn see_items(checker: &mut Checker<'_>, items: &[Expr])
     ensures { checker.new ≡ seen checker.old (marks.in_parens (marks.listed (map marks.expr items.now))) }
 {
-    checker.other();
+    checker.pass_other();
     see_listed(checker, items);
-    checker.other();
+    checker.pass_other();
 }
 
 // With commas between them.
@@ -149,7 +149,7 @@ fn see_listed(checker: &mut Checker<'_>, items: &[Expr])
     if let Some((first, rest)) = items.split_first() {
         see_expr(checker, first);
         for item in rest {
-            checker.other();
+            checker.pass_other();
             see_expr(checker, item);
         }
     }
@@ -164,7 +164,7 @@ fn see_to(checker: &mut Checker<'_>, names: &[Expr])
     if names.is_empty() {
         return;
     }
-    checker.other();
+    checker.pass_other();
     see_items(checker, names);
 }
 
@@ -174,8 +174,8 @@ fn see_to(checker: &mut Checker<'_>, names: &[Expr])
 pub fn see_call(checker: &mut Checker<'_>, call: &CallExpr)
     ensures { checker.new ≡ seen checker.old (marks.call call.now) }
 {
-    checker.calls();
-    checker.names(&call.app, call.arguments.len(), call.names.len());
+    checker.call();
+    checker.call_app(&call.app, call.arguments.len(), call.names.len());
     see_items(checker, call.arguments.as_slice());
     see_to(checker, call.names.as_slice());
 }

@@ -1,16 +1,15 @@
 //! The static rules of scripts.
 #![tactic(auto)]
 
-mod body;
 mod checker;
-pub mod checking;
+mod checking;
 mod definition;
 mod expression;
 mod fault;
-mod kinds;
+mod law;
 mod outer;
 mod rules;
 mod statement;
-mod visible;
 
 pub use checking::{CheckFault, check};
+pub use law::marks_are_tokens;

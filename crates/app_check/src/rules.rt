@@ -5,6 +5,7 @@ ghost use Rattle.script_tree.specs.Canonical as canonical;
 ghost use Rattle.script_tree.specs.Rules as rules;
 
 use script_print::print_app;
+use script_tree::BodyKind;
 use script_tree::tree::{AppDef, BuiltIn};
 use std::alloc::{AllocError, Global};
 
@@ -61,4 +62,45 @@ pub fn is_long(alloc: Global, app: &AppDef) -> Result<bool, AllocError>
     }
     let text = print_app(alloc, app)?;
     Ok(text.len() > MAX_KEY_TEXT)
+}
+
+/// The body of an app.
+pub fn body_of(app: &AppDef) -> BodyKind
+    ensures { result ≡ rules.body_of app.now }
+{
+    if app.join {
+        BodyKind::Join
+    } else {
+        BodyKind::Plain
+    }
+}
+
+/// Whether it is a plain app's.
+pub fn is_plain(body: BodyKind) -> bool
+    ensures { result ≡ rules.is_plain body }
+{
+    match body {
+        BodyKind::Plain => true,
+        BodyKind::Join | BodyKind::OfMain => false,
+    }
+}
+
+/// Whether it is a join app's.
+pub fn is_join(body: BodyKind) -> bool
+    ensures { result ≡ rules.is_join body }
+{
+    match body {
+        BodyKind::Join => true,
+        BodyKind::Plain | BodyKind::OfMain => false,
+    }
+}
+
+/// Whether it is that of `main`.
+pub fn is_main(body: BodyKind) -> bool
+    ensures { result ≡ rules.is_main body }
+{
+    match body {
+        BodyKind::OfMain => true,
+        BodyKind::Plain | BodyKind::Join => false,
+    }
 }

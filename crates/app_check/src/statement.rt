@@ -3,7 +3,7 @@
 ghost use Rattle.std.specs.Prelude.{◌≡◌, ◌++◌, ◌∷◌, [], OnOk, flat_map, map};
 ghost use Rattle.script_tree.specs.Folds.{fold_block, fold_statement};
 ghost use Rattle.script_tree.specs.Marks as marks;
-ghost use Rattle.script_tree.specs.Marks.{News, Other};
+ghost use Rattle.script_tree.specs.Marks.{Declares, Other};
 ghost use Rattle.script_tree.specs.declared.tree.Statement.TheOpen.{Statement-F};
 ghost use Rattle.app_check.specs.Bodies.{names_of};
 ghost use Rattle.app_check.specs.Seeing.{seen};
@@ -17,21 +17,21 @@ use std::alloc::AllocError;
 fn see_let<'a>(checker: &mut Checker<'a>, name: &'a Name, e: &Expr) -> Result<(), AllocError>
     ensures { OnOk result (checker.new ≡ seen checker.old (marks.statement_marks (Statement-F.Let name.now e.now))) }
 {
-    checker.other();
-    checker.news(name);
-    checker.other();
+    checker.pass_other();
+    checker.declare(name);
+    checker.pass_other();
     see_expr(checker, e);
-    checker.shows(name)
+    checker.make_visible(name)
 }
 
 #[tactic(auto, using(crate::proofs::Equations::mark_rules))]
 fn see_set(checker: &mut Checker<'_>, name: &Name, e: &Expr)
     ensures { checker.new ≡ seen checker.old (marks.statement_marks (Statement-F.Set name.now e.now)) }
 {
-    checker.uses(name);
-    checker.other();
+    checker.use_variable(name);
+    checker.pass_other();
     see_expr(checker, e);
-    checker.other();
+    checker.pass_other();
 }
 
 // A word and an expression.
@@ -39,18 +39,18 @@ fn see_set(checker: &mut Checker<'_>, name: &Name, e: &Expr)
 fn see_head(checker: &mut Checker<'_>, e: &Expr)
     ensures { checker.new ≡ seen checker.old (Other ∷ marks.expr e.now) }
 {
-    checker.other();
+    checker.pass_other();
     see_expr(checker, e);
 }
 
 // What stands before the block of a `for`.
 #[tactic(auto, using(crate::proofs::Equations::mark_rules))]
 fn see_for(checker: &mut Checker<'_>, name: &Name, e: &Expr)
-    ensures { checker.new ≡ seen checker.old (Other ∷ News name.now ∷ Other ∷ marks.expr e.now) }
+    ensures { checker.new ≡ seen checker.old (Other ∷ Declares name.now ∷ Other ∷ marks.expr e.now) }
 {
-    checker.other();
-    checker.news(name);
-    checker.other();
+    checker.pass_other();
+    checker.declare(name);
+    checker.pass_other();
     see_expr(checker, e);
 }
 
@@ -59,16 +59,16 @@ fn see_for(checker: &mut Checker<'_>, name: &Name, e: &Expr)
 fn see_line(checker: &mut Checker<'_>, e: &Expr)
     ensures { checker.new ≡ seen checker.old (Other ∷ marks.expr e.now ++ Other ∷ []) }
 {
-    checker.other();
+    checker.pass_other();
     see_expr(checker, e);
-    checker.other();
+    checker.pass_other();
 }
 
 #[tactic(auto, using(crate::proofs::Equations::mark_rules))]
 fn see_output(checker: &mut Checker<'_>, output: &Expr, content: &Expr)
     ensures { checker.new ≡ seen checker.old (marks.statement_marks (Statement-F.Write output.now content.now)) }
 {
-    checker.writes();
+    checker.write();
     see_expr(checker, output);
     see_line(checker, content);
 }
@@ -77,17 +77,17 @@ fn see_output(checker: &mut Checker<'_>, output: &Expr, content: &Expr)
 fn see_printed(checker: &mut Checker<'_>, e: &Expr)
     ensures { checker.new ≡ seen checker.old (marks.statement_marks (Statement-F.Print e.now)) }
 {
-    checker.acts();
+    checker.main_only();
     see_expr(checker, e);
-    checker.other();
+    checker.pass_other();
 }
 
 #[tactic(auto, using(crate::proofs::Equations::mark_rules))]
 fn see_checkpoint(checker: &mut Checker<'_>)
     ensures { checker.new ≡ seen checker.old (marks.statement_marks Statement-F.Checkpoint) }
 {
-    checker.acts();
-    checker.other();
+    checker.main_only();
+    checker.pass_other();
 }
 
 #[tactic(auto, using(crate::proofs::Equations::mark_rules))]
@@ -95,7 +95,7 @@ fn see_call_line(checker: &mut Checker<'_>, call: &CallExpr)
     ensures { checker.new ≡ seen checker.old (marks.statement_marks (Statement-F.Call call.now)) }
 {
     see_call(checker, call);
-    checker.other();
+    checker.pass_other();
 }
 
 #[cycle(statement)]
@@ -161,7 +161,7 @@ fn see_then<'a>(checker: &mut Checker<'a>, block: &'a Block) -> Result<(), Alloc
     ensures { OnOk result (checker.new ≡ seen checker.old (marks.block block.now ++ Other ∷ [])) }
 {
     see_block(checker, block, None)?;
-    checker.other();
+    checker.pass_other();
     Ok(())
 }
 
@@ -175,9 +175,9 @@ pub fn see_block<'a>(
 ) -> Result<(), AllocError>
     ensures { OnOk result (checker.new ≡ seen checker.old (fold_block marks.block_marks block.now (names_of name.entry))) }
 {
-    checker.opens(name)?;
+    checker.open_block(name)?;
     see_statements(checker, block.statements.as_slice())?;
-    checker.closes();
+    checker.close_block();
     Ok(())
 }
 

@@ -3,8 +3,8 @@ use Rattle.std.proofs.Common.{◌≡◌, ℕ, zero, suc, ◌+◌, ◌<◌, ◌�
 use Rattle.std.proofs.lemmas.Grind.{common_steps}
 use Rattle.flow_base.specs.declared.value.Value.{Value}
 use Rattle.flow_meaning.specs.Operators.{Text}
-use Rattle.body_code.specs.declared.code.Step.{Step}
-use Rattle.body_code.specs.Meaning.{Store, Slots, steps_do, none_set, with_arguments}
+use Rattle.body_program.specs.declared.code.Step.{Step}
+use Rattle.body_program.specs.Meaning.{Store, Slots, steps_do, none_set, with_arguments}
 use Rattle.app_eval.specs.Does.{steps_at}
 
 pub begins_at : (names : List Text) (steps : List Step) (s : Store) → steps_at names steps 0 None s ≡ steps_do names steps s

@@ -8,10 +8,10 @@ use Rattle.script_tree.specs.declared.tree.SumOp.{SumOp}
 use Rattle.script_tree.specs.declared.tree.TermOp.{TermOp}
 use Rattle.script_tree.specs.declared.tree.UnaryOp.{UnaryOp}
 use Rattle.flow_meaning.specs.Act.{Give, Throw}
-use Rattle.body_code.specs.declared.code.Code.{Code, fold-roll-Code}
-use Rattle.body_code.specs.declared.code.Code.TheVariants as c
-use Rattle.body_code.specs.declared.code.Code.TheVariants.{rolls-Constant, rolls-TooLarge, rolls-Slot, rolls-List, rolls-One, rolls-Two, rolls-Three, rolls-Unknown, rolls-Call, rolls-Any, rolls-All, rolls-Compared, rolls-Sum, rolls-Product, rolls-At, rolls-Signed}
-use Rattle.body_code.specs.Meaning.{Slots, code_value, held}
+use Rattle.body_program.specs.declared.code.Code.{Code, fold-roll-Code}
+use Rattle.body_program.specs.declared.code.Code.TheVariants as c
+use Rattle.body_program.specs.declared.code.Code.TheVariants.{rolls-Constant, rolls-TooLarge, rolls-Slot, rolls-List, rolls-One, rolls-Two, rolls-Three, rolls-Unknown, rolls-Call, rolls-Any, rolls-All, rolls-Compared, rolls-Sum, rolls-Product, rolls-At, rolls-Signed}
+use Rattle.body_program.specs.Meaning.{Slots, code_value, held}
 use Rattle.app_eval.specs.Chains.{all_calc, any_calc, at_calc, call_calc, compared_calc, list_calc, one_calc, product_calc, signed_calc, sum_calc, three_calc, two_calc, unknown_calc}
 
 pub value-Constant : (slots : Slots) (value : Value) → code_value slots (c.Constant value) ≡ Give value

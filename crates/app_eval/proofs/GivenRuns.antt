@@ -5,23 +5,21 @@ use Rattle.flow_meaning.specs.Act.{Act}
 use Rattle.flow_meaning.specs.Run.{Ran, Gave, Threw, Asked, run, then_run}
 use Rattle.app_eval.specs.declared.operators.Stop.{Stop}
 use Rattle.app_eval.specs.declared.operators.Stop.TheVariants as stop
-use Rattle.app_eval.specs.Gives.{Stops, StopsRun, Gives, GivesRun}
+use Rattle.app_eval.specs.declared.operators.Failure.{Failure}
+use Rattle.app_eval.specs.declared.operators.Failure.TheVariants as failure
+use Rattle.app_eval.specs.Gives.{Fails, StopsRun, stop_of}
 use Rattle.flow_base.specs.declared.value.Value.{Value}
-use Rattle.body_code.specs.declared.code.Code.{Code}
-use Rattle.body_code.specs.declared.code.Code.TheVariants as c
-use Rattle.body_code.specs.Meaning.{Slots, code_value}
+use Rattle.body_program.specs.declared.code.Code.{Code}
+use Rattle.body_program.specs.declared.code.Code.TheVariants as c
+use Rattle.body_program.specs.Meaning.{Slots, code_value}
 use Rattle.flow_meaning.proofs.Run.{run-bind}
 use Rattle.app_eval.specs.Chains.{call_from, values_calc}
 use Rattle.app_eval.proofs.Codes.{value-Call}
 
-pub stops_run : {A : Type 0} (s : Stop) (act : Act A) (answers : List Answer) → Stops s act → StopsRun s (run act answers)
-stops_run (stop.Raised exception) act answers h = ap (λ b. run b answers) h
-stops_run (stop.Asks request) act answers h = absurd h
-stops_run stop.NoMemory act answers h = tt
-
-pub gives_run : {A : Type 0} (r : Result A Stop) (act : Act A) (answers : List Answer) → Gives r act → GivesRun r answers (run act answers)
-gives_run (Ok a) act answers h = ap (λ b. run b answers) h
-gives_run (Err s) act answers h = stops_run s act answers h
+-- a failure of an operation that asks for nothing
+pub fails_run : {A : Type 0} (f : Failure) (act : Act A) (answers : List Answer) → Fails f act → StopsRun (stop_of f) (run act answers)
+fails_run (failure.Raised exception) act answers h = ap (λ b. run b answers) h
+fails_run failure.NoMemory act answers h = tt
 
 pub stops_then : {A B : Type 0} (s : Stop) (ran : Ran A) (next : A → Act B) → StopsRun s ran → StopsRun s (then_run ran next)
 stops_then (stop.Raised exception) ran next h = ap (λ r. then_run r next) h

@@ -1,13 +1,9 @@
 -- Texts joined, one more at a time.
-use Rattle.std.proofs.Common.{◌≡◌, ℕ, zero, suc, ◌+◌, ◌<◌, ◌-◌, ◌≤◌, drop, take, get_or, List, [], ◌∷◌, ◌++◌, length, length-append, append_assoc, sym, ap, ◌∙◌, arith}
+use Rattle.std.proofs.Common.{◌≡◌, ℕ, zero, suc, ◌+◌, ◌<◌, ◌-◌, ◌≤◌, drop, take, get_or, List, [], ◌∷◌, ◌++◌, length, append_assoc, sym, ap, ◌∙◌, arith}
 use Rattle.std.proofs.lemmas.Grind.{common_steps}
 use Rattle.std.proofs.lemmas.List.{take_all}
-use Rattle.flow_base.specs.declared.value.Value.TheVariants as v
-use Rattle.flow_base.specs.declared.outcome.Exception.TheVariants as x
-use Rattle.flow_meaning.specs.Act.{Throw}
-use Rattle.flow_meaning.specs.Operators.{Text, limited, joined}
+use Rattle.flow_meaning.specs.Operators.{Text, joined}
 use Rattle.app_eval.specs.Joins.{behind}
-use Rattle.app_eval.proofs.Sizes.{units-Text, past_limit}
 
 append-nil : (t : Text) → t ++ [] ≡ t
 append-nil t = grind (arith, common_steps)
@@ -22,9 +18,6 @@ joined_whole by first (t ∷ ts) some e =
     let k : length (t ∷ ts) - 1 ≡ length ts = omega arith in
     rw (k, take_all (length ts) ts (omega arith), e) (sym (joined-behind by t ts))
 
-pub too_long : (t rest whole : Text) → t ++ rest ≡ whole → 65535 < length t → limited (v.Text whole) ≡ Throw x.SizeError
-too_long t rest whole e h = past_limit (v.Text whole) (omega (arith, units-Text whole, ap length e, length-append t rest))
-
 behind_next : (text by : Text) (ts : List Text) (i : ℕ) (t : Text) → i < length ts → t ≡ get_or ts i t → ((text ++ by) ++ t) ++ behind by (drop (suc i) ts) ≡ text ++ behind by (drop i ts)
 behind_next text by [] i t short e = absurd (omega arith)
 behind_next text by (u ∷ us) zero t short e = rw e (ap (λ l. l ++ behind by us) (append_assoc text by u) ∙ append_assoc text (by ++ u) (behind by us))
@@ -36,4 +29,4 @@ behind_step text by ts i t short e =
     let next : i + 1 ≡ suc i = omega arith in
     rw next (behind_next text by ts i t short e)
 
-pub ruleset join_rules = (too_long, behind_step)
+pub ruleset join_rules = (behind_step)

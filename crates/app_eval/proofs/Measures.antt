@@ -1,5 +1,5 @@
 -- The measure of a list with one more item.
-use Rattle.std.proofs.Common.{◌≡◌, ℕ, ◌+◌, ◌-◌, ◌^◌, ◌<◌, min, max, List, [], ◌∷◌, ◌++◌, map, sum, true, false, Some, refl, sym, subst, ap, ◌∙◌, arith}
+use Rattle.std.proofs.Common.{◌≡◌, ℕ, ◌+◌, ◌-◌, ◌^◌, ◌<◌, min, max, List, [], ◌∷◌, ◌++◌, map, sum, Bool, true, false, if◌then◌else◌, Some, refl, sym, subst, ap, ◌∙◌, arith}
 use Rattle.std.proofs.lemmas.List.{map-append}
 use Rattle.std.proofs.lemmas.List.Sums.{fold-append}
 use Rattle.std.proofs.lemmas.Bool.Decides.{nat_tests}
@@ -13,11 +13,12 @@ use Rattle.flow_meaning.specs.Act.{Give, Throw}
 use Rattle.flow_meaning.specs.Operators.{limited, list_of}
 use Rattle.flow_meaning.specs.Meaning.{applied_to}
 use Rattle.flow_base.specs.Values.{units, levels, fits, greatest, max_units, max_levels}
-use Rattle.app_eval.specs.declared.held.Measure.{Measure}
+use Rattle.app_eval.specs.declared.limits.Measure.{Measure}
+use Rattle.app_eval.specs.Gives.{IsGiven}
 use Rattle.app_eval.specs.Measures.{IsMeasureOf, with_item, measure_fits}
 use Rattle.app_eval.proofs.Sizes.{units-List}
 
-levels-List : (vs : List Value) → levels (v.List vs) ≡ 1 + greatest (map levels vs)
+pub levels-List : (vs : List Value) → levels (v.List vs) ≡ 1 + greatest (map levels vs)
 unfolding levels
 levels-List vs = rw (← rolls-List vs, fold-roll-Value) refl
 
@@ -57,12 +58,34 @@ pub grown_is : (measure grown : Measure) (value : Value) (vs items : List Value)
 grown_is measure grown value vs items item is list with more =
     rw (with, more) (measure_more measure vs item (subst (IsMeasureOf (Some measure)) list is))
 
-list_of-List : (vs : List Value) → list_of (v.List vs) ≡ Give vs
+pub list_of-List : (vs : List Value) → list_of (v.List vs) ≡ Give vs
 unfolding list_of
 list_of-List vs = rw (← rolls-List vs, out-roll-Value) refl
 
 appended : (value : Value) (vs items : List Value) (item : Value) → value ≡ v.List vs → items ≡ vs ++ item ∷ [] → applied_to b.Append (value ∷ item ∷ []) ≡ limited (v.List items)
 appended value vs items item list more = rw (list, more, list_of-List vs) refl
+
+grows_to : (value : Value) (vs : List Value) (item : Value) → value ≡ v.List vs → applied_to b.Append (value ∷ item ∷ []) ≡ limited (v.List (vs ++ item ∷ []))
+grows_to value vs item list = appended value vs (vs ++ item ∷ []) item list refl
+
+grown_measure : (m : Measure) (value : Value) (vs : List Value) (item : Value) → value ≡ v.List vs → IsMeasureOf (Some m) value → measure_fits (with_item m item) ≡ fits (v.List (vs ++ item ∷ []))
+grown_measure m value vs item list is = measure_tells (with_item m item) (v.List (vs ++ item ∷ [])) (measure_more m vs item (subst (IsMeasureOf (Some m)) list is))
+
+given_if : (within : Bool) (w : Value) → within ≡ true → IsGiven (if within then Give w else Throw x.SizeError)
+given_if true w h = tt
+given_if false w h = absurd (cc)
+
+-- a list may get one more item, or not
+pub grows_within : (m : Measure) (value : Value) (vs : List Value) (item : Value) → value ≡ v.List vs → IsMeasureOf (Some m) value → measure_fits (with_item m item) ≡ true → IsGiven (applied_to b.Append (value ∷ item ∷ []))
+grows_within m value vs item list is within = rw (grows_to value vs item list) (given_if (fits (v.List (vs ++ item ∷ []))) (v.List (vs ++ item ∷ [])) (sym (grown_measure m value vs item list is) ∙ within))
+
+pub grows_past : (m : Measure) (value : Value) (vs : List Value) (item : Value) → value ≡ v.List vs → IsMeasureOf (Some m) value → measure_fits (with_item m item) ≡ false → applied_to b.Append (value ∷ item ∷ []) ≡ Throw x.SizeError
+grows_past m value vs item list is past = let e : fits (v.List (vs ++ item ∷ [])) ≡ false = sym (grown_measure m value vs item list is) ∙ past in grows_to value vs item list ∙ simp e
+
+pub grows_no_list : (value : Value) (item : Value) → list_of value ≡ Throw x.TypeError → applied_to b.Append (value ∷ item ∷ []) ≡ Throw x.TypeError
+grows_no_list value item h = rw h refl
+
+pub ruleset grow_rules = (grows_within, grows_past)
 
 pub appends_within : (grown : Measure) (value : Value) (vs items : List Value) (item : Value) → value ≡ v.List vs → items ≡ vs ++ item ∷ [] → IsMeasureOf (Some grown) (v.List items) → measure_fits grown ≡ true → applied_to b.Append (value ∷ item ∷ []) ≡ Give (v.List items)
 appends_within grown value vs items item list more is within =

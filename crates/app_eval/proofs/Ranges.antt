@@ -1,14 +1,19 @@
 -- The Ints of a range.
-use Rattle.std.proofs.Common.{◌≡◌, ℕ, zero, suc, ◌+◌, ◌<◌, ℤ, pos, ◌+ℤ◌, ◌-ℤ◌, ◌<ℤ◌, ◌≤ℤ◌, List, [], ◌∷◌, ◌++◌, map, sum, fold, refl, sym, ap, ◌∙◌, negsuc, append_assoc, arith}
+use Rattle.std.proofs.Common.{◌≡◌, ℕ, zero, suc, ◌+◌, ◌<◌, ◌≤◌, max, true, false, ℤ, pos, ◌+ℤ◌, ◌-ℤ◌, ◌<ℤ◌, ◌≤ℤ◌, List, [], ◌∷◌, ◌++◌, map, sum, fold, refl, sym, ap, ◌∙◌, negsuc, append_assoc, arith}
 use Rattle.std.proofs.lemmas.Int.{ints}
-use Rattle.std.specs.Prelude.{unsigned_abs}
-use Rattle.flow_base.specs.declared.value.Value.{Value}
+use Rattle.std.proofs.lemmas.Bool.Decides.{nat_tests}
+use Rattle.std.specs.Prelude.{unsigned_abs, nat_le, ◌&&◌}
+use Rattle.flow_base.specs.declared.value.Value.{Value, fold-roll-Value}
 use Rattle.flow_base.specs.declared.value.Value.TheVariants as v
+use Rattle.flow_base.specs.declared.value.Value.TheVariants.{rolls-Int}
 use Rattle.flow_base.specs.declared.outcome.Exception.TheVariants as x
-use Rattle.flow_base.specs.Values.{units}
-use Rattle.flow_meaning.specs.Act.{Throw}
+use Rattle.flow_base.specs.Values.{units, levels, fits, max_units, max_levels}
+use Rattle.flow_meaning.specs.Act.{Give, Throw}
 use Rattle.flow_meaning.specs.Operators.{limited, ints_from, count_between}
-use Rattle.app_eval.proofs.Sizes.{units-Int, units-List, past_limit}
+use Rattle.app_eval.specs.Gives.{IsGiven}
+use Rattle.app_eval.proofs.Fitting.{given_limited, is_given, past_limits}
+use Rattle.app_eval.proofs.Measures.{levels-List}
+use Rattle.app_eval.proofs.Sizes.{units-Int, units-List}
 
 units_from : (m : ℕ) (a : ℤ) (n : ℕ) → fold ◌+◌ m (map units (ints_from a n)) ≡ m + n
 units_from m a zero = omega arith
@@ -17,8 +22,30 @@ units_from m a (suc n) = units_from (m + units (v.Int a)) (a +ℤ pos 1) n ∙ o
 units_of_ints : (a : ℤ) (n : ℕ) → sum (map units (ints_from a n)) ≡ n
 units_of_ints a n = units_from 0 a n ∙ omega arith
 
-pub too_many_ints : (a : ℤ) (n : ℕ) → 65535 < n → limited (v.List (ints_from a n)) ≡ Throw x.SizeError
-too_many_ints a n h = past_limit (v.List (ints_from a n)) (omega (arith, units-List (ints_from a n), units_of_ints a n))
+levels-Int : (n : ℤ) → levels (v.Int n) ≡ 1
+unfolding levels
+levels-Int n = rw (← rolls-Int n, fold-roll-Value) refl
+
+greatest_from : (m : ℕ) (a : ℤ) (n : ℕ) → m ≤ 1 → fold max m (map levels (ints_from a n)) ≤ 1
+greatest_from m a zero h = h
+greatest_from m a (suc n) h = greatest_from (max m (levels (v.Int a))) (a +ℤ pos 1) n (omega (arith, levels-Int a))
+
+fits_test : (u l : ℕ) (n : ℕ) → u ≡ 1 + n → l ≤ 2 → (nat_le u max_units && nat_le l max_levels) ≡ nat_le (1 + n) max_units
+fits_test u l n h k = grind (arith, nat_tests)
+
+fits_ints : (a : ℤ) (n : ℕ) → fits (v.List (ints_from a n)) ≡ nat_le (1 + n) max_units
+fits_ints a n = fits_test (units (v.List (ints_from a n))) (levels (v.List (ints_from a n))) n (omega (arith, units-List (ints_from a n), units_of_ints a n)) (omega (arith, levels-List (ints_from a n), greatest_from 0 a n (omega arith)))
+
+pub ints_past : (a : ℤ) (n : ℕ) → nat_le (1 + n) max_units ≡ false → limited (v.List (ints_from a n)) ≡ Throw x.SizeError
+ints_past a n h = past_limits (v.List (ints_from a n)) (fits_ints a n ∙ h)
+
+pub ints_given : (a : ℤ) (n : ℕ) → nat_le (1 + n) max_units ≡ true → IsGiven (limited (v.List (ints_from a n)))
+ints_given a n h = is_given (v.List (ints_from a n)) (fits_ints a n ∙ h)
+
+pub ints_within : (a : ℤ) (n : ℕ) → nat_le (1 + n) max_units ≡ true → limited (v.List (ints_from a n)) ≡ Give (v.List (ints_from a n))
+ints_within a n h = given_limited (v.List (ints_from a n)) (ints_given a n h)
+
+pub ruleset limit_rules = (ints_past, ints_given, ints_within)
 
 count_none : (d : ℤ) → d ≤ℤ pos 0 → 0 ≡ count_between d
 count_none (pos zero) h = refl

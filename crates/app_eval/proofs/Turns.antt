@@ -11,10 +11,12 @@ use Rattle.flow_meaning.specs.Run.{Ran, Gave, Threw, Asked, run, then_run, reque
 use Rattle.flow_meaning.specs.Operators.{Text, list_of, truth_of, int_of, text_of}
 use Rattle.flow_meaning.specs.Meaning as m
 use Rattle.flow_meaning.proofs.Run.{run-bind}
-use Rattle.body_code.specs.declared.code.Code.{Code}
-use Rattle.body_code.specs.declared.code.Step.{Step, roll-Step, map-Step, fold-roll-Step, ind-Step}
-use Rattle.body_code.specs.declared.code.Step.TheOpen.{Step-F}
-use Rattle.body_code.specs.Meaning.{Does, Store, Flow, Goes, Returns, and_then, sequence, held, with_slot, turn_from, each_turn, code_value, goes_on, one_turn, while_turns, repeated, step_step, step_does, steps_do, writes}
+use Rattle.body_program.specs.declared.code.Code.{Code}
+use Rattle.body_program.specs.declared.code.Simple.{Simple}
+use Rattle.body_program.specs.declared.code.Simple.TheVariants as simple
+use Rattle.body_program.specs.declared.code.Step.{Step, roll-Step, map-Step, fold-roll-Step, ind-Step}
+use Rattle.body_program.specs.declared.code.Step.TheOpen.{Step-F}
+use Rattle.body_program.specs.Meaning.{Does, Store, Flow, Goes, Returns, and_then, sequence, held, with_slot, turn_from, each_turn, code_value, goes_on, one_turn, while_turns, repeated, simple_does, step_step, step_does, steps_do, writes}
 
 -- no more turns are left than so many
 abbrev pub FlowWithin : ℕ → Flow → Type 0
@@ -181,19 +183,22 @@ sets_within slot value s = omega arith
 stays_within : (s : Store) → s.left ≤ s.left
 stays_within s = omega arith
 
+quiet_simple : (names : List Text) (x : Simple) → NeverRaises (simple_does names x)
+quiet_simple names (simple.Set slot e) s = within_behind s.left (code_value s.slots e) _ (λ value. sets_within slot value s)
+quiet_simple names (simple.Append slot e) s = within_behind s.left (held (slice_get s.slots slot)) _ (λ list. within_behind s.left (code_value s.slots e) _ (λ item. within_behind s.left (m.applied_to b.Append (list ∷ item ∷ [])) _ (λ longer. sets_within slot longer s)))
+quiet_simple names (simple.Return e) s = within_behind s.left (code_value s.slots e) _ (λ value. stays_within s)
+quiet_simple names (simple.Raise e) s = within_behind s.left (code_value s.slots e >>= text_of) (λ t. Throw (x.AppError t)) (λ t. tt)
+quiet_simple names (simple.Write e t) s = within_behind s.left (code_value s.slots e) (λ at. code_value s.slots t >>= λ with. writes names at with s) (λ at. within_behind s.left (code_value s.slots t) (λ with. writes names at with s) (λ with. quiet_write names at with s))
+quiet_simple names (simple.Print e) s = within_behind s.left (code_value s.slots e) _ (λ value r. stays_within s)
+quiet_simple names simple.Checkpoint s = λ r. stays_within s
+quiet_simple names (simple.Do e) s = within_behind s.left (code_value s.slots e) _ (λ value. stays_within s)
+
 quiet_layer : (names : List Text) (y : Step-F (QuietStep names)) → NeverRaises (step_step names (map-Step Step Does (step_does names) (layer_of names y)))
 unfolding repeated
-quiet_layer names (Step-F.Set slot e) s = within_behind s.left (code_value s.slots e) _ (λ value. sets_within slot value s)
-quiet_layer names (Step-F.Append slot e) s = within_behind s.left (held (slice_get s.slots slot)) _ (λ list. within_behind s.left (code_value s.slots e) _ (λ item. within_behind s.left (m.applied_to b.Append (list ∷ item ∷ [])) _ (λ longer. sets_within slot longer s)))
+quiet_layer names (Step-F.Simple x) s = quiet_simple names x s
 quiet_layer names (Step-F.While e body) s = while_never_raises (suc s.left) e _ (quiet_steps names body) s
 quiet_layer names (Step-F.For slot e body) s = within_behind s.left (code_value s.slots e >>= list_of) _ (λ items. each_never_raises slot _ items (quiet_steps names body) s)
 quiet_layer names (Step-F.If e steps others) s = within_behind s.left (code_value s.slots e >>= truth_of) _ (λ holds. quiet_if holds _ _ (quiet_steps names steps) (quiet_steps names others) s)
-quiet_layer names (Step-F.Return e) s = within_behind s.left (code_value s.slots e) _ (λ value. stays_within s)
-quiet_layer names (Step-F.Raise e) s = within_behind s.left (code_value s.slots e >>= text_of) (λ t. Throw (x.AppError t)) (λ t. tt)
-quiet_layer names (Step-F.Write e t) s = within_behind s.left (code_value s.slots e) (λ at. code_value s.slots t >>= λ with. writes names at with s) (λ at. within_behind s.left (code_value s.slots t) (λ with. writes names at with s) (λ with. quiet_write names at with s))
-quiet_layer names (Step-F.Print e) s = within_behind s.left (code_value s.slots e) _ (λ value r. stays_within s)
-quiet_layer names Step-F.Checkpoint s = λ r. stays_within s
-quiet_layer names (Step-F.Do e) s = within_behind s.left (code_value s.slots e) _ (λ value. stays_within s)
 
 quiet_rolled : (names : List Text) (y : Step-F (QuietStep names)) → Quiet names (roll-Step (layer_of names y))
 unfolding step_does

@@ -1,5 +1,5 @@
 -- A body that runs by its answers, and what its walk has left.
-use Rattle.std.proofs.Common.{◌≡◌, List, [], ◌∷◌, ◌++◌, Some, None, Result, Ok, Err, refl, ap, ◌∙◌}
+use Rattle.std.proofs.Common.{◌≡◌, List, [], ◌∷◌, ◌++◌, Result, Ok, Err, refl, ap, sym, ◌∙◌}
 use Rattle.flow_meaning.specs.declared.walk.Answer.{Answer}
 use Rattle.flow_meaning.specs.Act.{Act, Give, Throw, Ask, after}
 use Rattle.flow_base.specs.declared.value.Value.{Value}
@@ -7,17 +7,13 @@ use Rattle.script_tree.specs.declared.tree.Block.{Block}
 use Rattle.flow_meaning.specs.Operators.{Text}
 use Rattle.flow_meaning.specs.Meaning.{Done, body}
 use Rattle.flow_meaning.specs.Run.{Ran, Gave, Threw, Asked, run}
-use Rattle.app_eval.specs.Runnings.{Advances, Unended, ended_in, left_after, ran_of, want_in, wants}
-use Rattle.app_eval.specs.Walks.{Resumes, act_of, answer_in, answers_in, answers_of, first_want, left_of}
+use Rattle.app_eval.specs.Runnings.{Advances, Unended, Walk, ended_in, left_after, ran_of, wants}
+use Rattle.app_eval.specs.Walks.{Resumes, act_of, answers_of, first_want, left_of}
 use Rattle.app_eval.specs.declared.running.Running.{Running}
 use Rattle.app_eval.specs.declared.running.Want.{Want}
 use Rattle.app_eval.specs.declared.running.Want.TheVariants as want
-use Rattle.app_eval.specs.declared.walker.Walker.{Walker}
 use Rattle.app_eval.specs.declared.walker.Reply.{Reply}
-use Rattle.flow_base.specs.declared.outcome.Ended.TheVariants as ended
-use Rattle.flow_base.specs.declared.outcome.Exception.TheVariants as x
-use Rattle.flow_meaning.specs.declared.walk.Request.{Request}
-use Rattle.flow_meaning.specs.declared.walk.Request.TheVariants as request
+use Rattle.app_eval.specs.declared.walker.Reply.TheVariants as the_reply
 use Rattle.flow_meaning.specs.Sequential.{end_of}
 
 pub act_of_begin : (a : Act Done) → act_of (run a []) ≡ a
@@ -40,43 +36,32 @@ pub ruleset walk_rules = (act_of_begin, act_of_tell, want_of_run)
 
 -- ---- plain apps
 
-requests_end : (request : Request) → ended_in (want_in request) ≡ ended.Raised x.TypeError
-requests_end (request.Call app arguments names) = refl
-requests_end (request.WaitValue v) = refl
-requests_end (request.WaitName v) = refl
-requests_end (request.Print v) = refl
-requests_end request.Checkpoint = refl
-
 pub ends_as : (a : Act Done) → ended_in (wants (run a [])) ≡ end_of a
 ends_as (Give d) = refl
 ends_as (Throw exception) = refl
-ends_as (Ask request go) = requests_end request
+ends_as (Ask request go) = refl
 
 -- ---- walks
 
 unended_by : {t u : Type 0} (w : Want) → (t → u) → Unended w t → Unended w u
 unended_by (want.Ended e) f h = tt
-unended_by (want.Call app arguments names) f h = f h
-unended_by (want.WaitValue v) f h = f h
-unended_by (want.WaitName v) f h = f h
-unended_by (want.Print v) f h = f h
-unended_by want.Checkpoint f h = f h
+unended_by (want.Asks request) f h = f h
 
-resumes_as : {E : Type 0} (before now : Walker) (told : Running) (reply : Reply) (r : Result Want E)
+resumes_as : {E : Type 0} (before now : Walk) (told : Running) (reply : Reply) (r : Result Want E)
     → act_of (ran_of [] told) ≡ after (left_of before) (answers_of reply) → Advances [] told now.running r → Resumes before now reply r
 resumes_as before now told reply (Err e) is a = tt
 resumes_as before now told reply (Ok w) is a = (a.0 ∙ want_of_run (ran_of [] told) ∙ ap first_want is, unended_by w (λ same. ap act_of same ∙ is) a.1)
 
 -- with no answer
-pub resumes_begin : {E : Type 0} (before now : Walker) (reply : Reply) (r : Result Want E)
-    → None ≡ answer_in reply → Advances [] before.running now.running r → Resumes before now reply r
-resumes_begin before now reply r none a = resumes_as before now before.running reply r (ap (λ o. after (left_of before) (answers_in o)) none) a
+pub resumes_begin : {E : Type 0} (before now : Walk) (reply : Reply) (r : Result Want E)
+    → reply ≡ the_reply.Begin → Advances [] before.running now.running r → Resumes before now reply r
+resumes_begin before now reply r begin a = resumes_as before now before.running reply r (ap (λ (told : Reply). after (left_of before) (answers_of told)) (sym begin)) a
 
 -- with one
-pub resumes_told : {E : Type 0} (before now : Walker) (told : Running) (reply : Reply) (answer : Answer) (r : Result Want E)
-    → Some answer ≡ answer_in reply → ran_of [] told ≡ run (left_after [] before.running) (before.running.told.items ++ answer ∷ []) → Advances [] told now.running r → Resumes before now reply r
-resumes_told before now told reply answer r some is a =
-    resumes_as before now told reply r (ap act_of is ∙ act_of_tell (left_after [] before.running) before.running.told.items answer ∙ ap (λ o. after (left_of before) (answers_in o)) some) a
+pub resumes_told : {E : Type 0} (before now : Walk) (told : Running) (reply : Reply) (answer : Answer) (r : Result Want E)
+    → reply ≡ the_reply.Told answer → ran_of [] told ≡ run (left_after [] before.running) (before.running.told.items ++ answer ∷ []) → Advances [] told now.running r → Resumes before now reply r
+resumes_told before now told reply answer r told_it is a =
+    resumes_as before now told reply r (ap act_of is ∙ act_of_tell (left_after [] before.running) before.running.told.items answer ∙ ap (λ (given : Reply). after (left_of before) (answers_of given)) (sym told_it)) a
 
 -- ---- the same body
 

@@ -13,8 +13,8 @@ use Rattle.flow_meaning.specs.Act.{Act, Give, Throw, Ask, ◌>>=◌, all_of}
 use Rattle.flow_meaning.specs.Operators.{Text, limited, list_of, truth_of, truth, texts_of, compared}
 use Rattle.flow_meaning.specs.Told.{called_value}
 use Rattle.flow_meaning.specs.Meaning as m
-use Rattle.body_code.specs.declared.code.Code.{Code}
-use Rattle.body_code.specs.Meaning.{Slots, chain, until, sums, products, items_at, calls, code_value}
+use Rattle.body_program.specs.declared.code.Code.{Code}
+use Rattle.body_program.specs.Meaning.{Slots, chain, until, sums, products, items_at, calls, code_value}
 
 abbrev pub any_calc : Slots → Code → List Code → Act Value
 any_calc slots first others = chain true (code_value slots first) (map (code_value slots) others)

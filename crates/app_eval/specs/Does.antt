@@ -1,7 +1,6 @@
 -- What is left of a body that waits at a place, and what a function that runs a part of a body returned.
-use Rattle.std.specs.Prelude.{◌≡◌, ℕ, suc, Bool, true, false, if◌then◌else◌, List, [], ◌∷◌, drop, Option, Some, None, Result, Ok, Err, slice_get, slice_set, length, ℤ}
+use Rattle.std.specs.Prelude.{◌≡◌, ℕ, suc, List, [], ◌∷◌, drop, Option, Some, None, Result, Ok, Err, slice_get}
 use Rattle.flow_base.specs.declared.value.Value.{Value}
-use Rattle.flow_base.specs.declared.outcome.Exception.{Exception}
 use Rattle.flow_base.specs.declared.outcome.Exception.TheVariants as x
 use Rattle.script_tree.specs.declared.tree.BuiltIn.TheVariants as b
 use Rattle.flow_meaning.specs.declared.walk.Answer.{Answer}
@@ -10,37 +9,33 @@ use Rattle.flow_meaning.specs.Act.{Act, Give, Throw, Ask, ◌>>=◌}
 use Rattle.flow_meaning.specs.Operators.{Text, text_of}
 use Rattle.flow_meaning.specs.Meaning as m
 use Rattle.flow_meaning.specs.Run.{Ran, Gave, Threw, run, request_of}
-use Rattle.body_code.specs.declared.code.Code.{Code}
-use Rattle.body_code.specs.declared.code.Step.{Step, out-Step}
-use Rattle.body_code.specs.declared.code.Step.TheOpen.{Step-F}
-use Rattle.body_code.specs.Meaning as code
-use Rattle.body_code.specs.Meaning.{Store, Flow, Goes, Returns, Does, and_then, sequence, repeated, each_turn, code_value, step_does, steps_do, held, with_slot}
-use Rattle.app_eval.specs.declared.frame.Frame.{Frame}
+use Rattle.body_program.specs.declared.code.Code.{Code}
+use Rattle.body_program.specs.declared.code.Step.{Step, out-Step}
+use Rattle.body_program.specs.declared.code.Step.TheOpen.{Step-F}
+use Rattle.body_program.specs.Meaning as code
+use Rattle.body_program.specs.Meaning.{Store, Flow, Goes, Returns, Does, and_then, repeated, each_turn, code_value, step_does, steps_do, held, with_slot}
 use Rattle.app_eval.specs.declared.frame.Flow.{Flow as FlowOf}
-use Rattle.app_eval.specs.declared.frame.Flow.TheVariants as flow
 use Rattle.app_eval.specs.declared.operators.Stop.{Stop}
-use Rattle.app_eval.specs.declared.place.Inside.{Inside, fold-Inside}
-use Rattle.app_eval.specs.declared.place.Inside.TheOpen.{Inside-F}
-use Rattle.app_eval.specs.declared.place.Halt.{Halt}
-use Rattle.app_eval.specs.declared.place.Halt.TheVariants as halt
-use Rattle.app_eval.specs.declared.place.Place.{Place}
-use Rattle.app_eval.specs.declared.body.Turn.{Turn as TurnOf}
-use Rattle.app_eval.specs.declared.body.Turn.TheVariants as turn
+use Rattle.app_eval.specs.declared.position.InnerPosition.{InnerPosition, fold-InnerPosition}
+use Rattle.app_eval.specs.declared.position.InnerPosition.TheOpen.{InnerPosition-F}
+use Rattle.app_eval.specs.declared.position.Interrupt.{Interrupt}
+use Rattle.app_eval.specs.declared.position.Interrupt.TheVariants as halt
+use Rattle.app_eval.specs.declared.position.Position.{Position}
+use Rattle.app_eval.specs.declared.interpreter.Iteration.{Iteration as TurnOf}
+use Rattle.app_eval.specs.declared.interpreter.Iteration.TheVariants as turn
 use Rattle.app_eval.specs.declared.operators.Stop.TheVariants as stop
-use Rattle.app_eval.specs.Gives.{Stops, StopsRun}
-
-abbrev pub store_of : Frame → Store
-store_of f = record { slots = f.slots.items; written = f.written.items; left = f.left }
-
-abbrev pub flow_of : FlowOf → Store → Flow
-flow_of flow.Goes s = Goes s
-flow_of (flow.Returns value) s = Returns value s
+use Rattle.app_eval.specs.Frames.{flow_of}
+use Rattle.app_eval.specs.Gives.{StopsRun}
 
 -- ---- what is left at a place
 
 -- what is left of a step
 abbrev pub Left : Type 0
 Left = Step → Does
+
+-- at a place that the steps don't have: no body waits there
+abbrev pub nowhere : Does
+nowhere s = Throw x.TypeError
 
 module _ (names : List Text) where
   -- at its beginning, or inside
@@ -50,7 +45,8 @@ module _ (names : List Text) where
 
   abbrev pub left_at : Option Step → Option Left → Does
   left_at (Some step) inside s = left_of inside step s
-  left_at None inside s = Give (Goes s)
+  left_at None None s = Give (Goes s)
+  left_at None (Some inside) s = nowhere s
 
   -- what is left of a block that waits in its step of this number
   abbrev pub block_left : List Step → ℕ → Option Left → Does
@@ -58,52 +54,52 @@ module _ (names : List Text) where
 
   abbrev pub then_left : Step-F Step → ℕ → Option Left → Does
   then_left (Step-F.If e steps others) k inside s = block_left steps k inside s
-  then_left _ k inside s = Give (Goes s)
+  then_left _ k inside s = nowhere s
 
   abbrev pub otherwise_left : Step-F Step → ℕ → Option Left → Does
   otherwise_left (Step-F.If e steps others) k inside s = block_left others k inside s
-  otherwise_left _ k inside s = Give (Goes s)
+  otherwise_left _ k inside s = nowhere s
 
   -- the turn, and the turns behind it
   abbrev pub turn_left : Step-F Step → ℕ → Option Left → Does
   turn_left (Step-F.While e body) k inside s = block_left body k inside s >>= λ f. and_then f (repeated e (steps_do names body))
-  turn_left _ k inside s = Give (Goes s)
+  turn_left _ k inside s = nowhere s
 
   abbrev pub item_left : Step-F Step → List Value → ℕ → Option Left → Does
   item_left (Step-F.For slot e body) items k inside s = block_left body k inside s >>= λ f. and_then f (each_turn slot (steps_do names body) items)
-  item_left _ items k inside s = Give (Goes s)
+  item_left _ items k inside s = nowhere s
 
-  abbrev pub inside_step : Inside-F Left → Left
-  inside_step (Inside-F.Then k inside) step = then_left (out-Step step) k inside
-  inside_step (Inside-F.Otherwise k inside) step = otherwise_left (out-Step step) k inside
-  inside_step (Inside-F.Turn k inside) step = turn_left (out-Step step) k inside
-  inside_step (Inside-F.Item items next k inside) step = item_left (out-Step step) (drop next items) k inside
+  abbrev pub inside_step : InnerPosition-F Left → Left
+  inside_step (InnerPosition-F.Then k inside) step = then_left (out-Step step) k inside
+  inside_step (InnerPosition-F.Otherwise k inside) step = otherwise_left (out-Step step) k inside
+  inside_step (InnerPosition-F.Iteration k inside) step = turn_left (out-Step step) k inside
+  inside_step (InnerPosition-F.Item items next k inside) step = item_left (out-Step step) (drop next items) k inside
 
-  unfoldable pub inside_does : Inside → Left
-  inside_does = fold-Inside Left inside_step
+  unfoldable pub inside_does : InnerPosition → Left
+  inside_does = fold-InnerPosition Left inside_step
 
-  abbrev pub insides : Option Inside → Option Left
+  abbrev pub insides : Option InnerPosition → Option Left
   insides None = None
   insides (Some inside) = Some (inside_does inside)
 
   -- what is left of a step, and of a block
-  abbrev pub step_at : Step → Option Inside → Does
+  abbrev pub step_at : Step → Option InnerPosition → Does
   step_at step inside = left_of (insides inside) step
 
-  abbrev pub steps_at : List Step → ℕ → Option Inside → Does
+  abbrev pub steps_at : List Step → ℕ → Option InnerPosition → Does
   steps_at steps k inside = block_left steps k (insides inside)
 
   -- a turn of a loop from a place on, and the turns behind it
-  abbrev pub turns_at : Code → List Step → ℕ → Option Inside → Does
+  abbrev pub turns_at : Code → List Step → ℕ → Option InnerPosition → Does
   turns_at condition body k inside s = steps_at body k inside s >>= λ f. and_then f (repeated condition (steps_do names body))
 
-  abbrev pub items_at : ℕ → List Step → List Value → ℕ → Option Inside → Does
+  abbrev pub items_at : ℕ → List Step → List Value → ℕ → Option InnerPosition → Does
   items_at slot body items k inside s = steps_at body k inside s >>= λ f. and_then f (each_turn slot (steps_do names body) items)
 
 -- ---- what functions returned
 
 -- At a request it goes on from the place with the answers that it leaves.
-abbrev pub Runs : {P A B : Type 0} → (A → Store → B) → (P → Store → Act B) → Result A (Halt P) → Store → List Answer → Ran B → Type 0
+abbrev pub Runs : {P A B : Type 0} → (A → Store → B) → (P → Store → Act B) → Result A (Interrupt P) → Store → List Answer → Ran B → Type 0
 Runs given rest (Ok a) s told ran = ran ≡ Gave (given a s) told
 Runs given rest (Err (halt.Raised exception)) s told ran = ran ≡ Threw exception
 Runs given rest (Err (halt.Asks request place)) s told ran = (request_of ran ≡ Some request) × (run (rest place s) told ≡ ran)
@@ -116,7 +112,7 @@ RunsHere (Err (stop.Asks request)) before s left ran = (request_of ran ≡ Some 
 RunsHere (Err st) before s left ran = StopsRun st ran
 
 -- a condition or a list, with the answers that were told before and those that are left
-abbrev pub Reads : {A : Type 0} → Result A (Halt (Unit {0})) → List Answer → List Answer → Ran A → Type 0
+abbrev pub Reads : {A : Type 0} → Result A (Interrupt (Unit {0})) → List Answer → List Answer → Ran A → Type 0
 Reads (Ok a) told left ran = ran ≡ Gave a left
 Reads (Err (halt.Raised exception)) told left ran = ran ≡ Threw exception
 Reads (Err (halt.Asks request _)) told left ran = (request_of ran ≡ Some request) × (left ≡ told)
@@ -128,36 +124,14 @@ turn_of turn.Goes s = Some (Goes s)
 turn_of (turn.Returns value) s = Some (Returns value s)
 
 -- a turn of `while`: it asks in its condition, where nothing has changed, or in its block
-abbrev pub RunsTurn : List Text → List Step → Result TurnOf (Halt (Option Place)) → Store → Store → List Answer → List Answer → Ran (Option Flow) → Type 0
+abbrev pub RunsTurn : List Text → List Step → Result TurnOf (Interrupt (Option Position)) → Store → Store → List Answer → List Answer → Ran (Option Flow) → Type 0
 RunsTurn names body (Ok t) before s told left ran = ran ≡ Gave (turn_of t s) left
 RunsTurn names body (Err (halt.Raised exception)) before s told left ran = ran ≡ Threw exception
 RunsTurn names body (Err (halt.Asks request None)) before s told left ran = (request_of ran ≡ Some request) × (s ≡ before) × (left ≡ told)
 RunsTurn names body (Err (halt.Asks request (Some p))) before s told left ran = (request_of ran ≡ Some request) × (run (steps_at names body p.step p.inside s >>= λ f. Give (Some f)) left ≡ ran)
 RunsTurn names body (Err halt.NoMemory) before s told left ran = Unit {0}
 
--- a function that changes the frame alone
-abbrev pub Changes : Result (Unit {0}) Stop → Store → Act Flow → Type 0
-Changes (Ok _) behind act = act ≡ Give (Goes behind)
-Changes (Err s) behind act = Stops s act
-
-abbrev pub appends : ℕ → Value → Does
-appends slot item s = do
-  list ← held (slice_get s.slots slot)
-  longer ← m.applied_to b.Append (list ∷ item ∷ [])
-  Give (Goes (with_slot slot longer s))
-
-abbrev pub writes_text : List Text → ℤ → Text → Does
-writes_text names i content s = do
-  k ← m.output_place i (length names)
-  if m.file_fits (m.name_at names k) content then Give (Goes (record s { written = slice_set s.written k (Some content) })) else Throw x.SizeError
-
 -- ---- statements without blocks
-
-abbrev pub is_simple : Step-F Step → Bool
-is_simple (Step-F.While e body) = false
-is_simple (Step-F.For slot e body) = false
-is_simple (Step-F.If e steps others) = false
-is_simple _ = true
 
 abbrev pub sets : ℕ → Code → Does
 sets slot e s = code_value s.slots e >>= λ value. Give (Goes (with_slot slot value s))
@@ -186,13 +160,3 @@ prints e s = code_value s.slots e >>= λ value. Ask (request.Print value) (λ _.
 
 abbrev pub checkpoints : Does
 checkpoints s = Ask request.Checkpoint (λ _. Give (Goes s))
-
--- whether a variable is set
-abbrev pub IsSet : Result (Unit {0}) Stop → Act Value → Type 0
-IsSet (Ok _) act = (value : Value) × (act ≡ Give value)
-IsSet (Err s) act = Stops s act
-
--- one more turn, or the exception
-abbrev pub Turns : Result (Unit {0}) Exception → Store → Act Store → Type 0
-Turns (Ok _) behind act = act ≡ Give behind
-Turns (Err exception) behind act = act ≡ Throw exception

@@ -1,11 +1,13 @@
 pub mod Chains
 pub mod Does
+pub mod Frames
 pub mod Gives
-pub mod Gots
-pub mod Halts
+pub mod Operands
+pub mod Interrupts
 pub mod Joins
 pub mod Measures
 pub mod Numbers
+pub mod Positions
 pub mod Splits
 pub mod Waits
 pub mod Runnings

@@ -7,6 +7,7 @@ use flow_meaning::Answer;
 /// The answers that are not read yet.
 #[derive(Drop)]
 pub struct Answers<'a> {
+    /// From the next one on.
     pub left: &'a [Answer],
 }
 

@@ -6,14 +6,14 @@ ghost use Rattle.flow_meaning.specs.Run.{run};
 ghost use Rattle.flow_meaning.specs.Meaning as m;
 
 use crate::answers::Answers;
-use crate::operators::Stop;
+use crate::operators::{Failure, Stop};
 use crate::{files, lists, numbers, texts, waits};
 use flow_base::{Exception, Value};
 use script_tree::tree::BuiltIn;
 use std::alloc::Global;
 
 /// What a built-in gives of one value.
-#[tactic(auto, using(crate::proofs::GivenRuns::gives_run))]
+#[tactic(auto, using(crate::proofs::GivenRuns::fails_run))]
 pub fn one(
     alloc: Global,
     built_in: BuiltIn,
@@ -23,11 +23,11 @@ pub fn one(
     ensures { GivesRun result answers.new.left.now (run (m.applied_to built_in (value.now ∷ [])) answers.old.left.now) }
 {
     match built_in {
-        BuiltIn::Len => lists::len(value),
-        BuiltIn::Text => numbers::text(alloc, value),
-        BuiltIn::Number => numbers::number(value),
-        BuiltIn::Name => files::name(alloc, value),
-        BuiltIn::Content => files::content(alloc, value),
+        BuiltIn::Len => Ok(lists::len(value)?),
+        BuiltIn::Text => Ok(numbers::text(alloc, value)?),
+        BuiltIn::Number => Ok(numbers::number(value)?),
+        BuiltIn::Name => Ok(files::name(alloc, value)?),
+        BuiltIn::Content => Ok(files::content(alloc, value)?),
         BuiltIn::Result => waits::result(alloc, value, answers),
         BuiltIn::Exception => waits::exception(alloc, value, answers),
         BuiltIn::Slice
@@ -41,7 +41,12 @@ pub fn one(
 }
 
 /// What a built-in gives of two values.
-pub fn two(alloc: Global, built_in: BuiltIn, first: &Value, second: &Value) -> Result<Value, Stop>
+pub fn two(
+    alloc: Global,
+    built_in: BuiltIn,
+    first: &Value,
+    second: &Value,
+) -> Result<Value, Failure>
     ensures { Gives result (m.applied_to built_in (first.now ∷ second.now ∷ [])) }
 {
     match built_in {
@@ -58,7 +63,7 @@ pub fn two(alloc: Global, built_in: BuiltIn, first: &Value, second: &Value) -> R
         | BuiltIn::Name
         | BuiltIn::Content
         | BuiltIn::Result
-        | BuiltIn::Exception => Err(Stop::Raised(Exception::TypeError)),
+        | BuiltIn::Exception => Err(Failure::Raised(Exception::TypeError)),
     }
 }
 
@@ -69,7 +74,7 @@ pub fn three(
     first: &Value,
     second: &Value,
     third: &Value,
-) -> Result<Value, Stop>
+) -> Result<Value, Failure>
     ensures { Gives result (m.applied_to built_in (first.now ∷ second.now ∷ third.now ∷ [])) }
 {
     match built_in {
@@ -86,6 +91,6 @@ pub fn three(
         | BuiltIn::Content
         | BuiltIn::Output
         | BuiltIn::Result
-        | BuiltIn::Exception => Err(Stop::Raised(Exception::TypeError)),
+        | BuiltIn::Exception => Err(Failure::Raised(Exception::TypeError)),
     }
 }

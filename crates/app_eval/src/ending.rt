@@ -1,31 +1,31 @@
 //! How bodies end.
 
 ghost use Rattle.std.specs.Prelude.{◌≡◌, IfOk};
-ghost use Rattle.app_eval.specs.Does.{flow_of};
-ghost use Rattle.app_eval.specs.Gives.{Gives};
+ghost use Rattle.app_eval.specs.Frames.{flow_of};
+ghost use Rattle.app_eval.specs.Gives.{Tells};
 ghost use Rattle.flow_meaning.specs.Sequential as sequential;
-ghost use Rattle.body_code.specs.Meaning.{Store, done};
+ghost use Rattle.body_program.specs.Meaning.{Store, done};
 ghost use Rattle.flow_meaning.specs.Meaning as m;
 
 use crate::frame::Flow;
-use crate::operators::Stop;
+use crate::operators::Failure;
 use flow_base::{Ended, Exception, FileOut, Files, Text, Value};
 use sqlite_items::{Items as ListOf, at};
 use std::alloc::{AllocError, Global};
 
 /// The files of a body that has ended, or MissingOutputs where one was not written.
 #[tactic(auto, using(crate::proofs::Written::files_rules))]
-fn files_of(alloc: Global, names: &[Text], written: &[Option<Text>]) -> Result<Files, Stop>
-    ensures { Gives result (m.files_of names.now written.now) }
+fn files_of(alloc: Global, names: &[Text], written: &[Option<Text>]) -> Result<Files, Failure>
+    ensures { Tells result (m.files_of names.now written.now) }
 {
     let mut files = ListOf::new(alloc);
     for i in 0..names.len() {
         let slot = match at(written, i) {
-            None => return Err(Stop::Raised(Exception::MissingOutputs)),
+            None => return Err(Failure::Raised(Exception::MissingOutputs)),
             Some(slot) => slot,
         };
         let content = match slot {
-            None => return Err(Stop::Raised(Exception::MissingOutputs)),
+            None => return Err(Failure::Raised(Exception::MissingOutputs)),
             Some(content) => content,
         };
         files.push(FileOut {
@@ -51,8 +51,7 @@ pub fn end_of(
     };
     match files_of(alloc, names, written) {
         Ok(files) => Ok(Ended::Value { value, files }),
-        Err(Stop::Raised(exception)) => Ok(Ended::Raised(exception)),
-        Err(Stop::Asks(_)) => Err(AllocError),
-        Err(Stop::NoMemory) => Err(AllocError),
+        Err(Failure::Raised(exception)) => Ok(Ended::Raised(exception)),
+        Err(Failure::NoMemory) => Err(AllocError),
     }
 }

@@ -1,9 +1,9 @@
 //! The value of an expression.
 
 ghost use Rattle.std.specs.Prelude.{Some, ◌∷◌, [], map, slice_get};
-ghost use Rattle.app_eval.specs.Gives.{Gives, GivesRun};
-ghost use Rattle.body_code.specs.Meaning as code;
-ghost use Rattle.body_code.specs.Meaning.{code_value};
+ghost use Rattle.app_eval.specs.Gives.{Answers as Exactly, GivesRun};
+ghost use Rattle.body_program.specs.Meaning as code;
+ghost use Rattle.body_program.specs.Meaning.{code_value};
 ghost use Rattle.flow_meaning.specs.Meaning as m;
 ghost use Rattle.flow_meaning.specs.Run.{run};
 ghost use Rattle.app_eval.specs.Chains as calc;
@@ -12,13 +12,12 @@ ghost use Rattle.flow_meaning.specs.Operators as meaning;
 use crate::answers::Answers;
 use crate::built_ins;
 use crate::comparisons::compared;
-use crate::got::Got;
-use crate::held::Held;
-use crate::operators::{
-    Stop, added, limited, list_of, multiplied, negated, texts_of, truth, truth_of,
-};
-use crate::places::indexed;
-use body_code::Code;
+use crate::indexing::indexed;
+use crate::limits::limited;
+use crate::operand::Operand;
+use crate::operators::{Stop, added, list_of, multiplied, negated, texts_of, truth, truth_of};
+use crate::variable::Variable;
+use body_program::Code;
 use flow_base::{Exception, Items, Names, Value};
 use flow_meaning::{Answer, Request};
 use script_tree::tree::{BuiltIn, CompareOp, SumOp, TermOp, UnaryOp};
@@ -28,8 +27,10 @@ use std::alloc::Global;
 /// What an expression is evaluated in: the variables of the body.
 #[derive(Drop)]
 pub struct Scope<'a> {
+    /// Where values are made.
     pub alloc: Global,
-    pub slots: &'a [Option<Held>],
+    /// The variables, by their slots.
+    pub slots: &'a [Option<Variable>],
 }
 
 impl<'a> Scope<'a> {
@@ -48,7 +49,7 @@ impl<'a> Scope<'a> {
     pub fn holds(&self, e: &'a Code, answers: &mut Answers) -> Result<bool, Stop>
         ensures { GivesRun result answers.new.left.now (run (calc.truth_calc self.now.slots.now e.now) answers.old.left.now) }
     {
-        truth_of(self.got(e, answers)?.get())
+        Ok(truth_of(self.got(e, answers)?.get())?)
     }
 
     /// The items of a list.
@@ -56,19 +57,19 @@ impl<'a> Scope<'a> {
     pub fn list_of(&self, e: &'a Code, answers: &mut Answers) -> Result<Items, Stop>
         ensures { GivesRun result answers.new.left.now (run (calc.items_of self.now.slots.now e.now) answers.old.left.now) }
     {
-        list_of(self.value(e, answers)?)
+        Ok(list_of(self.value(e, answers)?)?)
     }
 
     /// What an expression gives.
     #[cycle(expr)]
     #[tactic(auto, using(crate::proofs::Rules::code_rules))]
-    pub fn got(&self, e: &'a Code, answers: &mut Answers) -> Result<Got<'a>, Stop>
+    pub fn got(&self, e: &'a Code, answers: &mut Answers) -> Result<Operand<'a>, Stop>
         ensures { GivesRun result answers.new.left.now (run (code_value self.now.slots.now e.now) answers.old.left.now) }
     {
         match e {
-            Code::Constant(value) => Ok(Got::kept(value)),
+            Code::Constant(value) => Ok(Operand::kept(value)),
             Code::TooLarge => Err(Stop::Raised(Exception::SizeError)),
-            Code::Slot(slot) => self.variable(*slot),
+            Code::Slot(slot) => Ok(self.variable(*slot)?),
             Code::List(es) => self.list(es.as_slice(), answers),
             Code::One(built_in, e) => self.one(e.get(), *built_in, answers),
             Code::Two(built_in, d, e) => {
@@ -113,32 +114,37 @@ impl<'a> Scope<'a> {
         }
     }
 
-    fn variable(&self, slot: usize) -> Result<Got<'a>, Stop>
-        ensures { Gives result (code.held (slice_get self.now.slots.now slot)) }
+    fn variable(&self, slot: usize) -> Result<Operand<'a>, Exception>
+        ensures { Exactly result (code.held (slice_get self.now.slots.now slot)) }
     {
         match at(self.slots, slot) {
-            None => Err(Stop::Raised(Exception::TypeError)),
-            Some(None) => Err(Stop::Raised(Exception::TypeError)),
-            Some(Some(held)) => Ok(Got::kept(held.get())),
+            None => Err(Exception::TypeError),
+            Some(None) => Err(Exception::TypeError),
+            Some(Some(held)) => Ok(Operand::kept(held.get())),
         }
     }
 
     #[cycle(expr)]
     #[tactic(auto, using(crate::proofs::Rules::run_rules))]
-    fn signed(&self, e: &'a Code, op: UnaryOp, answers: &mut Answers) -> Result<Got<'a>, Stop>
+    fn signed(&self, e: &'a Code, op: UnaryOp, answers: &mut Answers) -> Result<Operand<'a>, Stop>
         ensures { GivesRun result answers.new.left.now (run (calc.signed_calc self.now.slots.now op e.now) answers.old.left.now) }
     {
         let value = self.got(e, answers)?;
-        Ok(Got::made(signed_value(op, value.get())?))
+        Ok(Operand::made(signed_value(op, value.get())?))
     }
 
     #[cycle(expr)]
     #[tactic(auto, using(crate::proofs::Rules::run_rules))]
-    fn one(&self, e: &'a Code, built_in: BuiltIn, answers: &mut Answers) -> Result<Got<'a>, Stop>
+    fn one(
+        &self,
+        e: &'a Code,
+        built_in: BuiltIn,
+        answers: &mut Answers,
+    ) -> Result<Operand<'a>, Stop>
         ensures { GivesRun result answers.new.left.now (run (calc.one_calc self.now.slots.now built_in e.now) answers.old.left.now) }
     {
         let value = self.got(e, answers)?;
-        Ok(Got::made(built_ins::one(self.alloc, built_in, value.get(), answers)?))
+        Ok(Operand::made(built_ins::one(self.alloc, built_in, value.get(), answers)?))
     }
 
     #[cycle(expr)]
@@ -147,13 +153,13 @@ impl<'a> Scope<'a> {
         &self,
         e: &'a Code,
         built_in: BuiltIn,
-        first: Got<'a>,
+        first: Operand<'a>,
         answers: &mut Answers,
-    ) -> Result<Got<'a>, Stop>
+    ) -> Result<Operand<'a>, Stop>
         ensures { GivesRun result answers.new.left.now (run (calc.two_from self.now.slots.now built_in first.entry e.now) answers.old.left.now) }
     {
         let second = self.got(e, answers)?;
-        Ok(Got::made(built_ins::two(self.alloc, built_in, first.get(), second.get())?))
+        Ok(Operand::made(built_ins::two(self.alloc, built_in, first.get(), second.get())?))
     }
 
     #[cycle(expr)]
@@ -162,14 +168,14 @@ impl<'a> Scope<'a> {
         &self,
         e: &'a Code,
         built_in: BuiltIn,
-        first: Got<'a>,
-        second: Got<'a>,
+        first: Operand<'a>,
+        second: Operand<'a>,
         answers: &mut Answers,
-    ) -> Result<Got<'a>, Stop>
+    ) -> Result<Operand<'a>, Stop>
         ensures { GivesRun result answers.new.left.now (run (calc.three_from self.now.slots.now built_in first.entry second.entry e.now) answers.old.left.now) }
     {
         let third = self.got(e, answers)?;
-        Ok(Got::made(built_ins::three(
+        Ok(Operand::made(built_ins::three(
             self.alloc,
             built_in,
             first.get(),
@@ -184,18 +190,18 @@ impl<'a> Scope<'a> {
         &self,
         e: &'a Code,
         op: CompareOp,
-        left: Got<'a>,
+        left: Operand<'a>,
         answers: &mut Answers,
-    ) -> Result<Got<'a>, Stop>
+    ) -> Result<Operand<'a>, Stop>
         ensures { GivesRun result answers.new.left.now (run (calc.compared_from self.now.slots.now op left.entry e.now) answers.old.left.now) }
     {
         let right = self.got(e, answers)?;
-        Ok(Got::made(compared(op, left.get(), right.get())?))
+        Ok(Operand::made(compared(op, left.get(), right.get())?))
     }
 
     #[cycle(expr)]
     #[tactic(auto, using(crate::proofs::Rules::run_rules))]
-    fn unknown(&self, es: &'a [Code], answers: &mut Answers) -> Result<Got<'a>, Stop>
+    fn unknown(&self, es: &'a [Code], answers: &mut Answers) -> Result<Operand<'a>, Stop>
         ensures { GivesRun result answers.new.left.now (run (calc.unknown_calc self.now.slots.now es.now) answers.old.left.now) }
     {
         let _ = self.values(es, answers)?;
@@ -204,32 +210,42 @@ impl<'a> Scope<'a> {
 
     #[cycle(expr)]
     #[tactic(auto, using(crate::proofs::Rules::run_rules))]
-    fn any(&self, others: &'a [Code], first: bool, answers: &mut Answers) -> Result<Got<'a>, Stop>
+    fn any(
+        &self,
+        others: &'a [Code],
+        first: bool,
+        answers: &mut Answers,
+    ) -> Result<Operand<'a>, Stop>
         ensures { GivesRun result answers.new.left.now (run (calc.any_from self.now.slots.now first others.now) answers.old.left.now) }
     {
         let mut holds = first;
         for other in others {
             if holds {
-                return Ok(Got::made(truth(true)));
+                return Ok(Operand::made(truth(true)));
             }
             holds = self.holds(other, answers)?;
         }
-        Ok(Got::made(truth(holds)))
+        Ok(Operand::made(truth(holds)))
     }
 
     #[cycle(expr)]
     #[tactic(auto, using(crate::proofs::Rules::run_rules))]
-    fn all(&self, others: &'a [Code], first: bool, answers: &mut Answers) -> Result<Got<'a>, Stop>
+    fn all(
+        &self,
+        others: &'a [Code],
+        first: bool,
+        answers: &mut Answers,
+    ) -> Result<Operand<'a>, Stop>
         ensures { GivesRun result answers.new.left.now (run (calc.all_from self.now.slots.now first others.now) answers.old.left.now) }
     {
         let mut holds = first;
         for other in others {
             if !holds {
-                return Ok(Got::made(truth(false)));
+                return Ok(Operand::made(truth(false)));
             }
             holds = self.holds(other, answers)?;
         }
-        Ok(Got::made(truth(holds)))
+        Ok(Operand::made(truth(holds)))
     }
 
     #[cycle(expr)]
@@ -237,15 +253,15 @@ impl<'a> Scope<'a> {
     fn sums(
         &self,
         others: &'a [(SumOp, Code)],
-        first: Got<'a>,
+        first: Operand<'a>,
         answers: &mut Answers,
-    ) -> Result<Got<'a>, Stop>
+    ) -> Result<Operand<'a>, Stop>
         ensures { GivesRun result answers.new.left.now (run (code.sums first.entry (calc.operands self.now.slots.now others.now)) answers.old.left.now) }
     {
         let mut left = first;
         for other in others {
             let right = self.got(&other.1, answers)?;
-            left = Got::made(added(self.alloc, other.0, left, right.get())?);
+            left = Operand::made(added(self.alloc, other.0, left, right.get())?);
         }
         Ok(left)
     }
@@ -255,15 +271,15 @@ impl<'a> Scope<'a> {
     fn products(
         &self,
         others: &'a [(TermOp, Code)],
-        first: Got<'a>,
+        first: Operand<'a>,
         answers: &mut Answers,
-    ) -> Result<Got<'a>, Stop>
+    ) -> Result<Operand<'a>, Stop>
         ensures { GivesRun result answers.new.left.now (run (code.products first.entry (calc.operands self.now.slots.now others.now)) answers.old.left.now) }
     {
         let mut left = first;
         for other in others {
             let right = self.got(&other.1, answers)?;
-            left = Got::made(multiplied(other.0, left.get(), right.get())?);
+            left = Operand::made(multiplied(other.0, left.get(), right.get())?);
         }
         Ok(left)
     }
@@ -273,9 +289,9 @@ impl<'a> Scope<'a> {
     fn items_at(
         &self,
         others: &'a [Code],
-        first: Got<'a>,
+        first: Operand<'a>,
         answers: &mut Answers,
-    ) -> Result<Got<'a>, Stop>
+    ) -> Result<Operand<'a>, Stop>
         ensures { GivesRun result answers.new.left.now (run (code.items_at first.entry (map (code_value self.now.slots.now) others.now)) answers.old.left.now) }
     {
         let mut from = first;
@@ -288,11 +304,11 @@ impl<'a> Scope<'a> {
 
     #[cycle(expr)]
     #[tactic(auto, using(crate::proofs::Rules::run_rules))]
-    fn list(&self, es: &'a [Code], answers: &mut Answers) -> Result<Got<'a>, Stop>
+    fn list(&self, es: &'a [Code], answers: &mut Answers) -> Result<Operand<'a>, Stop>
         ensures { GivesRun result answers.new.left.now (run (calc.list_calc self.now.slots.now es.now) answers.old.left.now) }
     {
         let values = self.values(es, answers)?;
-        Ok(Got::made(limited(Value::List(values))?))
+        Ok(Operand::made(limited(Value::List(values))?))
     }
 
     #[cycle(expr)]
@@ -316,7 +332,7 @@ impl<'a> Scope<'a> {
         app: u32,
         arguments: Items,
         answers: &mut Answers,
-    ) -> Result<Got<'a>, Stop>
+    ) -> Result<Operand<'a>, Stop>
         ensures { GivesRun result answers.new.left.now (run (calc.call_from self.now.slots.now app arguments names.now) answers.old.left.now) }
     {
         let names = self.values(names, answers)?;
@@ -331,7 +347,7 @@ impl<'a> Scope<'a> {
         arguments: Items,
         names: Names,
         answers: &mut Answers,
-    ) -> Result<Got<'a>, Stop>
+    ) -> Result<Operand<'a>, Stop>
         ensures { GivesRun result answers.new.left.now (run (calc.asks_call app arguments names) answers.old.left.now) }
     {
         match answers.next() {
@@ -340,15 +356,15 @@ impl<'a> Scope<'a> {
                 arguments,
                 names,
             })),
-            Some(Answer::Called(future)) => Ok(Got::made(future.copy(self.alloc)?)),
+            Some(Answer::Called(future)) => Ok(Operand::made(future.copy(self.alloc)?)),
             Some(_) => Err(Stop::Raised(Exception::TypeError)),
         }
     }
 }
 
 /// A value behind its sign.
-fn signed_value(op: UnaryOp, value: &Value) -> Result<Value, Stop>
-    ensures { Gives result (m.signed (Some op) value.now) }
+fn signed_value(op: UnaryOp, value: &Value) -> Result<Value, Exception>
+    ensures { Exactly result (m.signed (Some op) value.now) }
 {
     match op {
         UnaryOp::Minus => negated(value),

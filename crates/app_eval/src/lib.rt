@@ -2,26 +2,27 @@
 //! answers to their requests.
 #![tactic(auto)]
 
-pub mod answers;
-pub mod body;
-pub mod built_ins;
-pub mod comparisons;
-pub mod ending;
-pub mod expression;
-pub mod files;
-pub mod frame;
-pub mod got;
-pub mod held;
-pub mod lists;
-pub mod numbers;
-pub mod operators;
-pub mod place;
-pub mod places;
-pub mod plain_app;
-pub mod running;
-pub mod texts;
-pub mod waits;
-pub mod walker;
+mod answers;
+mod built_ins;
+mod comparisons;
+mod ending;
+mod expression;
+mod files;
+mod frame;
+mod indexing;
+mod interpreter;
+mod limits;
+mod lists;
+mod numbers;
+mod operand;
+mod operators;
+mod plain_app;
+mod position;
+mod running;
+mod texts;
+mod variable;
+mod waits;
+mod walker;
 
 pub use plain_app::apply;
 pub use running::Want;

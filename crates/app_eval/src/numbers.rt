@@ -1,24 +1,24 @@
 //! The built-ins between Ints and texts.
 
 ghost use Rattle.std.specs.Prelude.{◌∷◌, [], ◌≡◌, pos, neg_ℤ, IfOk};
-ghost use Rattle.app_eval.specs.Gives.{Gives};
+ghost use Rattle.app_eval.specs.Gives.{Answers, Gives};
 ghost use Rattle.app_eval.specs.Numbers.{capped};
 ghost use Rattle.flow_meaning.specs.Meaning as m;
 ghost use Rattle.flow_meaning.specs.Operators as meaning;
 
-use crate::operators::Stop;
+use crate::operators::Failure;
 use flow_base::{Exception, Text, Value};
 use script_tree::tree::BuiltIn;
 use std::alloc::{AllocError, Global};
 
 /// The decimal text of an Int.
 #[tactic(auto, unfolding(flow_meaning::specs::Operators::int_of))]
-pub fn text(alloc: Global, value: &Value) -> Result<Value, Stop>
+pub fn text(alloc: Global, value: &Value) -> Result<Value, Failure>
     ensures { Gives result (m.applied_to BuiltIn.Text (value.now ∷ [])) }
 {
     match value {
         Value::Int(n) => Ok(Value::Text(decimal(alloc, *n)?)),
-        _ => Err(Stop::Raised(Exception::TypeError)),
+        _ => Err(Failure::Raised(Exception::TypeError)),
     }
 }
 
@@ -31,21 +31,21 @@ fn decimal(alloc: Global, n: i64) -> Result<Text, AllocError>
 
 /// The Int that a text spells: digits, with `-` before them or none; else ValueError.
 #[tactic(auto, unfolding(flow_meaning::specs::Operators::text_of))]
-pub fn number(value: &Value) -> Result<Value, Stop>
-    ensures { Gives result (m.applied_to BuiltIn.Number (value.now ∷ [])) }
+pub fn number(value: &Value) -> Result<Value, Exception>
+    ensures { Answers result (m.applied_to BuiltIn.Number (value.now ∷ [])) }
 {
     match value {
         Value::Text(text) => number_in(text.as_slice()),
-        _ => Err(Stop::Raised(Exception::TypeError)),
+        _ => Err(Exception::TypeError),
     }
 }
 
 #[tactic(auto, using(crate::proofs::Magnitudes::number_rules))]
-fn number_in(text: &[u8]) -> Result<Value, Stop>
-    ensures { Gives result (meaning.the_number (meaning.number_in text.now)) }
+fn number_in(text: &[u8]) -> Result<Value, Exception>
+    ensures { Answers result (meaning.the_number (meaning.number_in text.now)) }
 {
     match text {
-        [] => Err(Stop::Raised(Exception::ValueError)),
+        [] => Err(Exception::ValueError),
         [first, digits @ ..] => {
             if *first == b'-' {
                 negative(magnitude(digits)?)
@@ -57,18 +57,18 @@ fn number_in(text: &[u8]) -> Result<Value, Stop>
 }
 
 #[tactic(auto, using(crate::proofs::Magnitudes::int_rules))]
-fn positive(magnitude: u64) -> Result<Value, Stop>
-    ensures { Gives result (meaning.int (pos magnitude)) }
+fn positive(magnitude: u64) -> Result<Value, Exception>
+    ensures { Answers result (meaning.int (pos magnitude)) }
 {
     match i64::try_from(magnitude) {
         Ok(n) => Ok(Value::Int(n)),
-        Err(_) => Err(Stop::Raised(Exception::OverflowError)),
+        Err(_) => Err(Exception::OverflowError),
     }
 }
 
 #[tactic(auto, using(crate::proofs::Magnitudes::int_rules))]
-fn negative(magnitude: u64) -> Result<Value, Stop>
-    ensures { Gives result (meaning.int (neg_ℤ (pos magnitude))) }
+fn negative(magnitude: u64) -> Result<Value, Exception>
+    ensures { Answers result (meaning.int (neg_ℤ (pos magnitude))) }
 {
     match i64::try_from(magnitude) {
         Ok(n) => Ok(Value::Int(-n)),
@@ -76,7 +76,7 @@ fn negative(magnitude: u64) -> Result<Value, Stop>
             if magnitude == 1 << 63 {
                 Ok(Value::Int(i64::MIN))
             } else {
-                Err(Stop::Raised(Exception::OverflowError))
+                Err(Exception::OverflowError)
             }
         }
     }
@@ -84,16 +84,16 @@ fn negative(magnitude: u64) -> Result<Value, Stop>
 
 /// The number that digits spell, or the greatest where it is past 64 bits; ValueError where they
 /// are no digits.
-fn magnitude(digits: &[u8]) -> Result<u64, Stop>
-    ensures { Gives result (capped (meaning.natural digits.now)) }
+fn magnitude(digits: &[u8]) -> Result<u64, Exception>
+    ensures { Answers result (capped (meaning.natural digits.now)) }
 {
     if digits.is_empty() {
-        return Err(Stop::Raised(Exception::ValueError));
+        return Err(Exception::ValueError);
     }
     let mut value: u64 = 0;
     for digit in digits {
         if !digit.is_ascii_digit() {
-            return Err(Stop::Raised(Exception::ValueError));
+            return Err(Exception::ValueError);
         }
         value = value
             .saturating_mul(10)

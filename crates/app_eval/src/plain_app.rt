@@ -5,8 +5,8 @@ ghost use Rattle.flow_meaning.specs.Sequential as sequential;
 ghost use Rattle.app_eval.specs.Runnings.{ended_in};
 
 use crate::running::{Running, Want};
-use app_numbers::Apps;
-use body_code::program;
+use app_index::Apps;
+use body_program::program;
 use flow_base::{Ended, Exception, Items, Names};
 use script_tree::tree::AppDef;
 use std::alloc::{AllocError, Global};
@@ -34,10 +34,6 @@ fn end_by(want: Want) -> Ended
 {
     match want {
         Want::Ended(ended) => ended,
-        Want::Call { .. } => Ended::Raised(Exception::TypeError),
-        Want::WaitValue(_) => Ended::Raised(Exception::TypeError),
-        Want::WaitName(_) => Ended::Raised(Exception::TypeError),
-        Want::Print(_) => Ended::Raised(Exception::TypeError),
-        Want::Checkpoint => Ended::Raised(Exception::TypeError),
+        Want::Asks(_) => Ended::Raised(Exception::TypeError),
     }
 }

@@ -1,18 +1,18 @@
 //! A body that runs, from one request to the next.
 
 ghost use Rattle.std.specs.Prelude.{◌≡◌, ◌++◌, ◌∷◌, [], List, None, Some, IfOk, OnOk, slice_set};
-ghost use Rattle.app_eval.specs.Runnings.{Advances, Halted, left_after, ran_of, want_in};
-ghost use Rattle.body_code.specs.Meaning as code;
+ghost use Rattle.app_eval.specs.Runnings.{Advances, Fits, Halted, left_after, ran_of};
+ghost use Rattle.body_program.specs.Meaning as code;
 ghost use Rattle.flow_meaning.specs.Meaning as m;
 ghost use Rattle.flow_meaning.specs.Operators.{Text as TextOf};
 ghost use Rattle.flow_meaning.specs.Run.{run};
 
-use crate::body::Body;
 use crate::ending::end_of;
 use crate::frame::Frame;
-use crate::held::Held;
-use crate::place::{Halt, Place};
-use body_code::Program;
+use crate::interpreter::Interpreter;
+use crate::position::{Interrupt, Position};
+use crate::variable::Variable;
+use body_program::Program;
 use flow_base::{Ended, Items, Names, Text, Value};
 use flow_meaning::{Answer, Request};
 use std::alloc::{AllocError, Global};
@@ -21,61 +21,33 @@ use std::mem;
 /// The turns that the loops of a body may make.
 const MAX_TURNS: u32 = 1000000;
 
-/// What a body wants before it goes on, or how it ended.
+/// What a body wants.
 #[derive(Drop)]
 pub enum Want {
-    /// A call of the app of this number, with these names of outputs.
-    Call {
-        app: u32,
-        arguments: Items,
-        names: Names,
-    },
-    /// `result` of a future or an output.
-    WaitValue(Value),
-    /// `exception` of a future or an output.
-    WaitName(Value),
-    Print(Value),
-    Checkpoint,
+    /// The answer to this, before it goes on.
+    Asks(Request),
+    /// Nothing more: it has ended so.
     Ended(Ended),
-}
-
-impl Want {
-    pub fn of(request: Request) -> Want
-        ensures { result ≡ want_in request }
-    {
-        match request {
-            Request::Call {
-                app,
-                arguments,
-                names,
-            } => Want::Call {
-                app,
-                arguments,
-                names,
-            },
-            Request::WaitValue(future) => Want::WaitValue(future),
-            Request::WaitName(future) => Want::WaitName(future),
-            Request::Print(value) => Want::Print(value),
-            Request::Checkpoint => Want::Checkpoint,
-        }
-    }
 }
 
 /// A body that runs.
 #[derive(Drop)]
 pub struct Running {
+    /// What it does.
     pub program: Program,
+    /// What it has.
     pub frame: Frame,
-    pub place: Place,
+    /// Where it waits.
+    pub place: Position,
     /// The answers that the statement at the place was told.
     pub told: Vec<Answer>,
 }
 
 /// The beginning of a body.
-fn beginning() -> Place
+fn beginning() -> Position
     ensures { result ≡ record { step = 0; inside = None } }
 {
-    Place {
+    Position {
         step: 0,
         inside: None,
     }
@@ -83,14 +55,15 @@ fn beginning() -> Place
 
 impl Running {
     /// A body before its first statement.
-    #[tactic(auto, using(crate::proofs::Begins::begins_at), unfolding(body_code::specs::Meaning::program_act))]
+    #[tactic(auto, using(crate::proofs::Begins::begins_at), unfolding(body_program::specs::Meaning::program_act))]
     pub fn begin(
         alloc: Global,
         program: Program,
         arguments: &[Value],
         names: &[Text],
     ) -> Result<Running, AllocError>
-        ensures { IfOk result (λ r. ran_of names.now r ≡ run (code.program_act program arguments.now names.now) []) }
+        ensures runs { IfOk result (λ r. ran_of names.now r ≡ run (code.program_act program arguments.now names.now) []) }
+        ensures fits { IfOk result Fits }
     {
         let slots = slots_of(alloc, &program, arguments)?;
         Ok(Running {
@@ -107,7 +80,9 @@ impl Running {
 
     /// One more answer.
     pub fn tell(&mut self, answer: Answer) -> Result<(), AllocError>
-        ensures { (names : List TextOf) → OnOk result (ran_of names self.new ≡ run (left_after names self.old) (self.old.told.items ++ answer ∷ [])) }
+        requires { Fits self.old }
+        ensures told { (names : List TextOf) → OnOk result (ran_of names self.new ≡ run (left_after names self.old) (self.old.told.items ++ answer ∷ [])) }
+        ensures fits { Fits self.new }
     {
         self.told.push(answer)?;
         Ok(())
@@ -116,9 +91,11 @@ impl Running {
     /// On to the next request, or to the end.
     #[tactic(auto, using(crate::proofs::Advances::ended_advances))]
     pub fn advance(&mut self, alloc: Global, names: &[Text]) -> Result<Want, AllocError>
-        ensures { Advances names.now self.old self.new result }
+        requires { Fits self.old }
+        ensures advances { Advances names.now self.old self.new result }
+        ensures fits { Fits self.new }
     {
-        let body = Body { alloc, names };
+        let body = Interpreter { alloc, names };
         let place = mem::replace(&mut self.place, beginning());
         let steps = self.program.steps.as_slice();
         match body.steps(steps, place, &mut self.frame, &mut self.told) {
@@ -128,16 +105,16 @@ impl Running {
     }
 
     /// The end by an exception, or a request, at whose place it waits.
-    fn halted(&mut self, halt: Halt<Place>) -> Result<Want, AllocError>
+    fn halted(&mut self, halt: Interrupt<Position>) -> Result<Want, AllocError>
         ensures { Halted halt self.old self.new result }
     {
         match halt {
-            Halt::Raised(exception) => Ok(Want::Ended(Ended::Raised(exception))),
-            Halt::Asks(request, place) => {
+            Interrupt::Raised(exception) => Ok(Want::Ended(Ended::Raised(exception))),
+            Interrupt::Asks(request, place) => {
                 self.place = place;
-                Ok(Want::of(request))
+                Ok(Want::Asks(request))
             }
-            Halt::NoMemory => Err(AllocError),
+            Interrupt::NoMemory => Err(AllocError),
         }
     }
 }
@@ -147,7 +124,7 @@ fn slots_of(
     alloc: Global,
     program: &Program,
     arguments: &[Value],
-) -> Result<Vec<Option<Held>>, AllocError>
+) -> Result<Vec<Option<Variable>>, AllocError>
     ensures { IfOk result (λ slots. slots.items ≡ code.with_arguments program.now.parameters arguments.now (code.none_set program.now.slots)) }
 {
     let mut slots = none_set(alloc, program.slots)?;
@@ -157,7 +134,7 @@ fn slots_of(
 
 /// No variable is set.
 #[tactic(auto, using(crate::proofs::Begins::none_more))]
-fn none_set(alloc: Global, count: usize) -> Result<Vec<Option<Held>>, AllocError>
+fn none_set(alloc: Global, count: usize) -> Result<Vec<Option<Variable>>, AllocError>
     ensures { IfOk result (λ slots. slots.items ≡ code.none_set count) }
 {
     let mut slots = Vec::new(alloc);
@@ -172,7 +149,7 @@ fn set_arguments(
     alloc: Global,
     parameters: &[usize],
     arguments: &[Value],
-    slots: &mut Vec<Option<Held>>,
+    slots: &mut Vec<Option<Variable>>,
 ) -> Result<(), AllocError>
     ensures { OnOk result (slots.new.items ≡ code.with_arguments parameters.now arguments.now slots.old.items) }
 {
@@ -185,11 +162,11 @@ fn set_arguments(
 }
 
 /// Sets a variable, where there is a slot for it.
-fn set_slot(slots: &mut Vec<Option<Held>>, slot: usize, value: Value)
+fn set_slot(slots: &mut Vec<Option<Variable>>, slot: usize, value: Value)
     ensures { slots.new.items ≡ slice_set slots.old.items slot (Some value) }
 {
     if slot < slots.len() {
-        slots[slot] = Some(Held::of(value));
+        slots[slot] = Some(Variable::of(value));
     }
 }
 

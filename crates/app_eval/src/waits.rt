@@ -1,7 +1,7 @@
 //! The built-ins that ask: what a future or an output has, once its task has ended.
 
 ghost use Rattle.std.specs.Prelude.{◌∷◌, [], ◌≡◌, slice_get, IfOk};
-ghost use Rattle.app_eval.specs.Gives.{Gives, GivesRun};
+ghost use Rattle.app_eval.specs.Gives.{Gives, GivesRun, Tells};
 ghost use Rattle.app_eval.specs.Waits.{value_asked, name_asked};
 ghost use Rattle.flow_base.specs.declared.value.Value.{out-Value};
 ghost use Rattle.flow_meaning.specs.Meaning as m;
@@ -9,7 +9,7 @@ ghost use Rattle.flow_meaning.specs.Run.{run};
 ghost use Rattle.flow_meaning.specs.Told as meaning;
 
 use crate::answers::Answers;
-use crate::operators::Stop;
+use crate::operators::{Failure, Stop};
 use flow_base::{Exception, FileOut, Outcome, Text, Value};
 use flow_meaning::{Answer, Request};
 use script_tree::tree::BuiltIn;
@@ -46,25 +46,25 @@ fn wait_for_value(alloc: Global, future: &Value, answers: &mut Answers) -> Resul
     match answers.next() {
         None => Err(Stop::Asks(Request::WaitValue(future.copy(alloc)?))),
         Some(answer) => match answer {
-            Answer::Outcome(outcome) => told_value(alloc, future, outcome),
+            Answer::Outcome(outcome) => Ok(told_value(alloc, future, outcome)?),
             _ => Err(Stop::Raised(Exception::TypeError)),
         },
     }
 }
 
-fn told_value(alloc: Global, future: &Value, outcome: &Outcome) -> Result<Value, Stop>
-    ensures { Gives result (meaning.told_value (out-Value future.now) outcome.now) }
+fn told_value(alloc: Global, future: &Value, outcome: &Outcome) -> Result<Value, Failure>
+    ensures { Tells result (meaning.told_value (out-Value future.now) outcome.now) }
 {
     match outcome {
         Outcome::Value { value, files } => match future {
             Value::Output { index, .. } => file_at(alloc, files.as_slice(), *index as usize),
             _ => Ok(value.copy(alloc)?),
         },
-        Outcome::Failed(exception) => Err(Stop::Raised(exception.copy(alloc)?)),
+        Outcome::Failed(exception) => Err(Failure::Raised(exception.copy(alloc)?)),
     }
 }
 
-fn file_at(alloc: Global, files: &[FileOut], index: usize) -> Result<Value, Stop>
+fn file_at(alloc: Global, files: &[FileOut], index: usize) -> Result<Value, Failure>
     ensures { Gives result (meaning.as_file (slice_get files.now index)) }
 {
     match at(files, index) {
@@ -72,7 +72,7 @@ fn file_at(alloc: Global, files: &[FileOut], index: usize) -> Result<Value, Stop
             name: file.name.copy(alloc)?,
             content: file.content.copy(alloc)?,
         }),
-        None => Err(Stop::Raised(Exception::IndexError)),
+        None => Err(Failure::Raised(Exception::IndexError)),
     }
 }
 

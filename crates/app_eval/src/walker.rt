@@ -1,58 +1,61 @@
 //! Walks of main and of the bodies of joins, which wait for the answers to their requests.
 
-ghost use Rattle.std.specs.Prelude.{◌≡◌, ◌<◌, [], length, slice_get, IfOk, OnOk};
+ghost use Rattle.std.specs.Prelude.{◌≡◌, ◌<◌, ◌-◌, ◌^◌, suc, [], length, slice_get, IfOk};
 ghost use Rattle.flow_meaning.specs.Meaning as m;
 ghost use Rattle.flow_meaning.specs.Walk.{body_act, main_act, names_in};
-ghost use Rattle.app_eval.specs.Walks.{Resumes, answer_in, left_of, rest_of};
+ghost use Rattle.app_eval.specs.Walks.{Resumes, left_of, rest_of};
 
 use crate::running::{Running, Want};
-use app_numbers::Apps;
-use body_code::program;
-use flow_base::{Items, Outcome, Text, Value};
+use app_index::Apps;
+use body_program::program;
+use flow_base::{Items, Text, Value};
 use flow_meaning::Answer;
 use script_tree::checked::Checked;
 use script_tree::tree::{AppDef, Block};
 use sqlite_items::at;
 use std::alloc::{AllocError, Global};
+use std::marker::Model;
 
 /// What a walk is told.
 #[derive(Drop)]
 pub enum Reply {
     /// Nothing yet: before the first want.
     Begin,
-    /// The future of a call.
-    Called(Value),
-    /// The outcome of the task that was waited for.
-    Outcome(Outcome),
-    /// What was to be printed or written is done.
-    Go,
-}
-
-impl Reply {
-    fn into_answer(self) -> Option<Answer>
-        ensures { result ≡ answer_in self }
-    {
-        match self {
-            Reply::Begin => None,
-            Reply::Called(future) => Some(Answer::Called(future)),
-            Reply::Outcome(outcome) => Some(Answer::Outcome(outcome)),
-            Reply::Go => Some(Answer::Go),
-        }
-    }
+    /// The answer to what it asked for.
+    Told(Answer),
 }
 
 /// A walk. It begins again nowhere: each resume goes on in the statement that asked.
 #[derive(Drop)]
 pub struct Walker {
-    pub running: Running,
-    /// How often it may still be resumed; fewer at each resume.
-    pub rest: u64,
+    running: Running,
+    // how often it may still be resumed
+    rest: u64,
+}
+
+impl Model for Walker {
+    ghost use Rattle.std.specs.Coded.{codes};
+    ghost use Rattle.flow_base.specs.contracts.value.Value as value;
+    ghost use Rattle.body_program.specs.contracts.code.Code as code;
+    ghost use Rattle.body_program.specs.contracts.code.Step as step;
+    ghost use Rattle.app_eval.specs.contracts.position.InnerPosition as position;
+    ghost use Rattle.app_eval.specs.Runnings.{Fits, Walk};
+
+    ghost Value = { Walk };
+
+    ghost coded = { Prim.hlevel (codes, value.the_row.coded, code.the_row.coded, step.the_row.coded, position.the_row.coded) };
+
+    ghost view = { λ w. record { running = w.running; rest = w.rest } };
+
+    ghost invariant = { λ w. Fits w.running };
 }
 
 impl Walker {
     /// The walk of main.
     pub fn main(alloc: Global, script: &Checked) -> Result<Walker, AllocError>
-        ensures { IfOk result (λ w. left_of w ≡ main_act script.now.tree) }
+        requires { length script.now.tree.0 < 2 ^ 32 }
+        ensures left { IfOk result (λ w. left_of w ≡ main_act script.now.tree) }
+        ensures rest { IfOk result (λ w. rest_of w ≡ 2 ^ 64 - 1) }
     {
         let script = script.script();
         walk(alloc, script.apps(), &[], script.main(), &[])
@@ -65,8 +68,10 @@ impl Walker {
         app: u32,
         arguments: Items,
     ) -> Result<Walker, AllocError>
-        requires { app < length script.now.tree.0 }
-        ensures { IfOk result (λ w. left_of w ≡ body_act script.now.tree (slice_get script.now.tree.0 app) arguments) }
+        requires few { length script.now.tree.0 < 2 ^ 32 }
+        requires app { app < length script.now.tree.0 }
+        ensures left { IfOk result (λ w. left_of w ≡ body_act script.now.tree (slice_get script.now.tree.0 app) arguments) }
+        ensures rest { IfOk result (λ w. rest_of w ≡ 2 ^ 64 - 1) }
     {
         let apps = script.script().apps();
         let app = &apps[app as usize];
@@ -79,18 +84,24 @@ impl Walker {
         )
     }
 
-    /// On to the next want. Its cost is that of the statement which asked, and of the blocks around it.
-    pub fn resume(&mut self, alloc: Global, reply: Reply) -> Result<Want, AllocError>
-        ensures wants { Resumes self.old self.new reply result }
-        ensures rest { OnOk result (rest_of self.new < rest_of self.old) }
+    /// How often it may still be resumed.
+    pub fn rest(&self) -> u64
+        ensures { result ≡ rest_of self.now }
     {
-        if self.rest == 0 {
-            return Err(AllocError);
-        }
+        self.rest
+    }
+
+    /// On to the next want. Its cost is that of the statement which asked, and of the blocks around it.
+    /// A walk that has ended isn't to be resumed.
+    pub fn resume(&mut self, alloc: Global, reply: Reply) -> Result<Want, AllocError>
+        requires { 0 < rest_of self.old }
+        ensures wants { Resumes self.old self.new reply result }
+        ensures rest { suc (rest_of self.new) ≡ rest_of self.old }
+    {
         self.rest -= 1;
-        match reply.into_answer() {
-            None => self.running.advance(alloc, &[]),
-            Some(answer) => {
+        match reply {
+            Reply::Begin => self.running.advance(alloc, &[]),
+            Reply::Told(answer) => {
                 self.running.tell(answer)?;
                 self.running.advance(alloc, &[])
             }
@@ -105,11 +116,10 @@ fn walk(
     body: &Block,
     arguments: &[Value],
 ) -> Result<Walker, AllocError>
-    ensures { IfOk result (λ w. left_of w ≡ m.body (names_in apps.now) body.now parameters.now arguments.now []) }
+    requires { length apps.now < 2 ^ 32 }
+    ensures left { IfOk result (λ w. left_of w ≡ m.body (names_in apps.now) body.now parameters.now arguments.now []) }
+    ensures rest { IfOk result (λ w. rest_of w ≡ 2 ^ 64 - 1) }
 {
-    if apps.len() > u32::MAX as usize {
-        return Err(AllocError);
-    }
     let apps = Apps::of(alloc, apps)?;
     let program = program(alloc, &apps, parameters, body)?;
     let running = Running::begin(alloc, program, arguments, &[])?;

@@ -1,8 +1,8 @@
 //! The futures of a run: what an AppFuture and a DataFuture name, and the table that knows their outcomes.
 #![tactic(auto)]
 
-pub mod future;
-pub mod table;
+mod future;
+mod table;
 #[cfg(test)]
 mod tests;
 

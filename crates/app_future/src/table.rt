@@ -13,12 +13,12 @@ use std::marker::Model;
 
 // What is known of a task. Contracts see it as a future.
 #[derive(Drop)]
-struct Entry {
+struct FutureRecord {
     outputs: u32,
     outcome: Option<Outcome>,
 }
 
-impl Model for Entry {
+impl Model for FutureRecord {
     ghost use Rattle.std.specs.Coded.{codes};
     ghost use Rattle.flow_base.specs.contracts.value.Value as value;
     ghost use Rattle.app_future.specs.Futures.{Future};
@@ -30,11 +30,11 @@ impl Model for Entry {
     ghost view = { λ e. record { outputs = e.outputs; outcome = e.outcome } };
 }
 
-impl Entry {
-    fn open(outputs: u32) -> Entry
+impl FutureRecord {
+    fn open(outputs: u32) -> FutureRecord
         ensures { result ≡ record { outputs = outputs; outcome = None } }
     {
-        Entry {
+        FutureRecord {
             outputs,
             outcome: None,
         }
@@ -58,7 +58,7 @@ impl Entry {
 #[derive(Drop)]
 pub struct FutureTable {
     // for each path, as its numbers, what is known of its task
-    futures: IndexMap<Vec<u32>, Entry>,
+    futures: IndexMap<Vec<u32>, FutureRecord>,
 }
 
 impl Model for FutureTable {
@@ -95,7 +95,7 @@ impl FutureTable {
         ensures grows { Grows self.old self.new }
     {
         let key = Vec::from_slice(alloc, path.as_slice())?;
-        self.futures.insert(key, Entry::open(outputs))?;
+        self.futures.insert(key, FutureRecord::open(outputs))?;
         Ok(AppFuture { path, outputs })
     }
 

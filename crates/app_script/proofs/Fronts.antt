@@ -2,10 +2,11 @@
 use Rattle.std.proofs.Common.{◌≡◌, ◌==◌, true, false, ℕ, ◌+◌, ◌<◌, ◌≤◌, [], ◌∷◌, length, drop, Ok, Err, ap, sym, subst, ◌∙◌, arith, length-drop}
 use Rattle.std.proofs.lemmas.Bool.Decides.{nat_tests}
 use Rattle.script_tree.specs.declared.token.Token.{Token}
+use Rattle.script_tree.specs.declared.fault.SyntaxFault.{SyntaxFault}
 use Rattle.script_tree.specs.Lexing.{Text, piece, after_piece, with_token, stops_at}
 use Rattle.app_script.specs.Lexer.{lexed, left, nothing_left, BeginsPiece}
 use Rattle.app_script.specs.Unread.{Unread}
-use Rattle.app_script.proofs.PieceSizes.{IsWithin, piece_within}
+use Rattle.parser_model.proofs.PieceSizes.{IsWithin, piece_within}
 use Rattle.app_script.proofs.Turns.{lexed_nil, lexed_piece}
 
 abbrev unread : ℕ → Text → Unread
@@ -18,7 +19,7 @@ front_token : (place : ℕ) (text : Text) (token : Token) (len : ℕ) → Begins
 front_token place [] token len begins long is = absurd (omega arith)
 front_token place (b ∷ bs) token len begins long is = lexed_piece place b bs begins.0 begins.1 ∙ ap (after_piece lexed place (b ∷ bs)) is
 
-front_fault : (place : ℕ) (text : Text) (kind : ℕ) → BeginsPiece text → 0 < length text → piece text ≡ Err kind → lexed place text ≡ stops_at place kind
+front_fault : (place : ℕ) (text : Text) (kind : SyntaxFault) → BeginsPiece text → 0 < length text → piece text ≡ Err kind → lexed place text ≡ stops_at place kind
 front_fault place [] kind begins long is = absurd (omega arith)
 front_fault place (b ∷ bs) kind begins long is = lexed_piece place b bs begins.0 begins.1 ∙ ap (after_piece lexed place (b ∷ bs)) is
 
@@ -46,7 +47,7 @@ left_token place text token len old new view begins long is next =
       subst (λ u. length new.text < length u.text) view shorter,
     )
 
-pub left_fault : (place : ℕ) (text : Text) (kind : ℕ) (old : Unread) → unread place text ≡ old → BeginsPiece old.text → 0 < length text → piece text ≡ Err kind → left old ≡ stops_at place kind
+pub left_fault : (place : ℕ) (text : Text) (kind : SyntaxFault) (old : Unread) → unread place text ≡ old → BeginsPiece old.text → 0 < length text → piece text ≡ Err kind → left old ≡ stops_at place kind
 left_fault place text kind old view begins long is = ap left (sym view) ∙ front_fault place text kind (subst (λ u. BeginsPiece u.text) (sym view) begins) long is
 
 pub left_none : (place : ℕ) (text : Text) (old : Unread) → unread place text ≡ old → length text ≤ 0 → left old ≡ nothing_left

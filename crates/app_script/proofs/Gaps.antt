@@ -5,7 +5,8 @@ use Rattle.std.proofs.lemmas.Bool.Decides.{nat_tests}
 use Rattle.std.proofs.lemmas.List.{take_all}
 use Rattle.std.proofs.lemmas.List.Sums.{prefix_len-le-length}
 use Rattle.std.specs.List.{prefix_len}
-use Rattle.script_tree.specs.Lexing.{Text, is_blank, is_in_comment, after_comment, byte_fault, stops_at}
+use Rattle.script_tree.specs.declared.fault.SyntaxFault.TheVariants.{WrongByte}
+use Rattle.script_tree.specs.Lexing.{Text, is_blank, is_in_comment, after_comment, stops_at}
 use Rattle.app_script.specs.Lexer.{lexed, ends_line, IsGap}
 use Rattle.app_script.proofs.Turns.{lexed_blank, lexed_comment}
 
@@ -15,11 +16,11 @@ newline_is_blank b h = grind (arith, nat_tests)
 comment_ends : (at : ℕ) (text : Text) → ends_line text ≡ true → after_comment lexed at text ≡ lexed at text
 comment_ends at [] h = refl
 comment_ends at (b ∷ bs) h =
-    ap (λ t. if t then lexed (at + 1) bs else stops_at at byte_fault) h ∙ sym (lexed_blank at b bs (newline_is_blank b h))
+    ap (λ t. if t then lexed (at + 1) bs else stops_at at WrongByte) h ∙ sym (lexed_blank at b bs (newline_is_blank b h))
 
-comment_stops : (at : ℕ) (text : Text) → ends_line text ≡ false → after_comment lexed at text ≡ stops_at at byte_fault
+comment_stops : (at : ℕ) (text : Text) → ends_line text ≡ false → after_comment lexed at text ≡ stops_at at WrongByte
 comment_stops at [] h = absurd (false≢true (sym h))
-comment_stops at (b ∷ bs) h = ap (λ t. if t then lexed (at + 1) bs else stops_at at byte_fault) h
+comment_stops at (b ∷ bs) h = ap (λ t. if t then lexed (at + 1) bs else stops_at at WrongByte) h
 
 behind : (at n : ℕ) → at + 1 + n ≡ at + (1 + n)
 behind at n = omega arith
@@ -38,7 +39,7 @@ comment_stopped : (bs : Text) → ends_line (drop (prefix_len is_in_comment bs) 
 comment_stopped bs h =
     let len = prefix_len is_in_comment bs in (
       omega (arith, prefix_len-le-length is_in_comment bs),
-      λ at. lexed_comment at bs ∙ comment_stops (at + 1 + len) (drop len bs) h ∙ ap (λ place. stops_at place byte_fault) (behind at len),
+      λ at. lexed_comment at bs ∙ comment_stops (at + 1 + len) (drop len bs) h ∙ ap (λ place. stops_at place WrongByte) (behind at len),
     )
 
 rest_is : (bs : Text) (n : ℕ) → take (length bs - n) (drop n bs) ≡ drop n bs

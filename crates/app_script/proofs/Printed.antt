@@ -4,7 +4,7 @@ use Rattle.script_tree.specs.declared.token.Token.{Token}
 use Rattle.script_tree.specs.Canonical.{canonical}
 use Rattle.script_tree.specs.Grammar.{Tree, IsSpellable, max_text}
 use Rattle.script_tree.specs.Lexing.{Text, lex}
-use Rattle.canonical_reading.proofs.Reading.{has_canonical}
+use Rattle.print_parse_roundtrip.proofs.Reading.{has_canonical}
 use Rattle.app_script.specs.Parsing.{IsTextOf}
 use Rattle.app_script.proofs.Reading.{one_script}
 

@@ -4,7 +4,7 @@ use Rattle.std.proofs.lemmas.Bool.{false≢true}
 use Rattle.std.specs.List.{prefix_len}
 use Rattle.script_tree.specs.Lexing.{Text, Lexed, Piece, is_blank, is_in_comment, piece, with_token, after_piece, after_comment, lex_from, lex}
 use Rattle.app_script.specs.Lexer.{lexed, nothing_left}
-use Rattle.app_script.proofs.PieceSizes.{IsWithin, piece_within}
+use Rattle.parser_model.proofs.PieceSizes.{IsWithin, piece_within}
 
 abbrev Go : Type 0
 Go = ℕ → Text → Lexed

@@ -1,6 +1,7 @@
 -- What a lexer has left, and what it answers.
 use Rattle.std.specs.Prelude.{◌≡◌, ℕ, ◌+◌, ◌≤◌, ◌<◌, Bool, true, false, nat_eq, [], ◌∷◌, length, drop, Option, Some, None, Result, Ok, Err}
-use Rattle.script_tree.specs.Lexing.{Text, Lexed, lex_from, is_blank, with_token, stops_at, byte_fault}
+use Rattle.script_tree.specs.declared.fault.SyntaxFault.TheVariants.{WrongByte}
+use Rattle.script_tree.specs.Lexing.{Text, Lexed, lex_from, is_blank, with_token, stops_at}
 use Rattle.app_script.specs.declared.lexer.PlacedToken.{PlacedToken}
 use Rattle.app_script.specs.declared.lexer.LexFault.{LexFault}
 use Rattle.app_script.specs.declared.lexer.LexFault.TheVariants.{Refused, NoMemory}
@@ -39,7 +40,7 @@ PassesOver n text = (at : ℕ) → lexed at text ≡ lexed (at + n) (drop n text
 
 -- the text has no token, and a fault at this byte of a comment
 abbrev pub StopsIn : ℕ → Text → Type 0
-StopsIn n text = (at : ℕ) → lexed at text ≡ stops_at (at + n) byte_fault
+StopsIn n text = (at : ℕ) → lexed at text ≡ stops_at (at + n) WrongByte
 
 -- so many bytes are passed over, or there is the fault
 abbrev pub IsGap : Result ℕ ℕ → Text → Type 0

@@ -6,7 +6,9 @@ use Rattle.flow_base.specs.TextBytes.{IsTextByte}
 use Rattle.script_tree.specs.declared.token.Token.{Token}
 use Rattle.script_tree.specs.declared.token.Token.TheVariants as t
 use Rattle.script_tree.specs.declared.token.Symbol.{Symbol}
-use Rattle.script_tree.specs.Lexing.{Text, Piece, digits_value, is_number, is_printable, escaped, token_fault}
+use Rattle.script_tree.specs.declared.fault.SyntaxFault.{SyntaxFault}
+use Rattle.script_tree.specs.declared.fault.SyntaxFault.TheVariants.{WrongToken}
+use Rattle.script_tree.specs.Lexing.{Text, Piece, digits_value, is_number, is_printable, escaped}
 use Rattle.app_script.specs.declared.piece.Part.{Part}
 use Rattle.app_script.specs.declared.piece.Part.TheVariants.{End, Byte}
 use Rattle.app_script.specs.declared.piece.PieceFault.{PieceFault}
@@ -18,7 +20,7 @@ IsPiece (Ok p) piece = piece ≡ Ok p
 IsPiece (Err (Refused kind)) piece = piece ≡ Err kind
 IsPiece (Err NoMemory) piece = Unit {0}
 
-abbrev pub symbol_of : Result (Symbol × ℕ) ℕ → Piece
+abbrev pub symbol_of : Result (Symbol × ℕ) SyntaxFault → Piece
 symbol_of (Ok p) = Ok (t.Symbol p.0, p.1)
 symbol_of (Err kind) = Err kind
 
@@ -55,5 +57,5 @@ with_front bytes n None = None
 
 abbrev pub IsTextEnd : Result (Text × ℕ) PieceFault → Option (Text × ℕ) → Type 0
 IsTextEnd (Ok p) end = end ≡ Some p
-IsTextEnd (Err (Refused kind)) end = (end ≡ None) × (kind ≡ token_fault)
+IsTextEnd (Err (Refused kind)) end = (end ≡ None) × (kind ≡ WrongToken)
 IsTextEnd (Err NoMemory) end = Unit {0}

@@ -7,7 +7,8 @@ ghost use Rattle.script_tree.specs.Lexing.{is_in_comment};
 ghost use Rattle.app_script.specs.Lexer as spec;
 ghost use Rattle.app_script.specs.declared.lexer.LexFault.TheVariants.{NoMemory};
 
-use crate::piece::{BYTE_FAULT, PieceFault, front_piece, is_blank, is_in_comment};
+use crate::piece::{PieceFault, front_piece, is_blank, is_in_comment};
+use script_tree::SyntaxFault;
 use script_tree::token::Token;
 use std::alloc::{AllocError, Global};
 use std::marker::Model;
@@ -16,9 +17,9 @@ use thiserror::Error;
 /// Why a text has no further token.
 #[derive(Debug, Drop, Error)]
 pub enum LexFault {
-    /// A piece that is no token, at its first byte: of kind 1 (Byte), 2 (Token) or 3 (Number).
-    #[error("fault {kind} at byte {place}")]
-    Refused { kind: u8, place: u32 },
+    /// A piece that is no token, at its first byte, or a byte that a comment can't hold.
+    #[error("fault {kind} at byte {place}", kind = .kind.number())]
+    Refused { kind: SyntaxFault, place: u32 },
     #[error("out of memory")]
     NoMemory,
 }
@@ -135,7 +136,7 @@ impl<'a> Lexer<'a> {
                 self.token(alloc)
             }
             Err(len) => Err(LexFault::Refused {
-                kind: BYTE_FAULT,
+                kind: SyntaxFault::WrongByte,
                 place: self.place + len as u32,
             }),
         }

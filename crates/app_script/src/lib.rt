@@ -1,9 +1,9 @@
 //! Reads scripts and prints them.
 #![tactic(auto)]
 
-pub mod lexer;
+mod lexer;
 pub mod parse;
 mod piece;
-pub mod printing;
+mod printing;
 
-pub use script_print::print_app;
+pub use printing::print;

@@ -5,11 +5,12 @@ ghost use Rattle.script_tree.specs.Grammar as grammar;
 ghost use Rattle.app_script.specs.Parsing.{Parses, Steps};
 
 use crate::lexer::{LexFault, Lexer, PlacedToken};
-use grammar_machine::whole::SoFar;
-use script_reader::definitions::{nothing_read, script_ended, script_step};
+use parser_model::script_state::ParserState;
+use parser_step::definitions::{nothing_read, script_ended, script_step};
+use script_tree::SyntaxFault;
 use script_tree::script::Script;
 use script_tree::token::{Symbol, Token};
-use sqlite_items::Items;
+use sqlite_items::Items as ListOf;
 use std::alloc::{AllocError, Global};
 use thiserror::Error;
 
@@ -18,20 +19,12 @@ const MAX_TEXT: usize = 1_048_576;
 /// How many brackets may be open at once.
 const MAX_NESTING: u32 = 64;
 
-/// The kind of a token with which no script goes on.
-const SYNTAX: u8 = 4;
-/// The kind of a bracket that would be the 65th open one.
-const TOO_DEEP: u8 = 5;
-/// The kind of a text that is too long.
-const TOO_LONG: u8 = 6;
-
 /// Why a text is no script.
 #[derive(Debug, Drop, Error)]
 pub enum ParseFault {
-    /// The kind of the fault, and its place in bytes from 0. Kinds: 1 a wrong byte, 2 no token, 3 no
-    /// number, 4 a token with which no script goes on, 5 a bracket too deep, 6 a text too long.
-    #[error("parse {kind} at {place}")]
-    Refused { kind: u8, place: u32 },
+    /// What is wrong, and its place in bytes from 0.
+    #[error("parse {kind} at {place}", kind = .kind.number())]
+    Refused { kind: SyntaxFault, place: u32 },
     #[error("out of memory")]
     NoMemory,
 }
@@ -75,14 +68,14 @@ fn nesting_after(depth: u32, token: &Token) -> u32
     }
 }
 
-/// The script of a text, or its first fault from the left; at one place the one of the smaller kind
-/// is told.
+/// The script of a text, or its first fault from the left; at one place the one of the smaller
+/// number is told.
 pub fn parse(alloc: Global, bytes: &[u8]) -> Result<Script, ParseFault>
     ensures { Parses bytes.now result }
 {
     if bytes.len() > MAX_TEXT {
         return Err(ParseFault::Refused {
-            kind: TOO_LONG,
+            kind: SyntaxFault::TooLong,
             place: MAX_TEXT as u32,
         });
     }
@@ -95,7 +88,7 @@ fn read(alloc: Global, bytes: &[u8]) -> Result<Script, ParseFault>
     ensures { Parses bytes.now result }
 {
     let mut lexer = Lexer::new(bytes);
-    let mut places = Items::new(alloc);
+    let mut places = ListOf::new(alloc);
     let mut depth = 0;
     let mut state = nothing_read(alloc);
     while let Some(PlacedToken { place, token }) = lexer.next(alloc)? {
@@ -103,7 +96,7 @@ fn read(alloc: Global, bytes: &[u8]) -> Result<Script, ParseFault>
         state = stepped(alloc, state, place, token)?;
         if depth > MAX_NESTING {
             return Err(ParseFault::Refused {
-                kind: TOO_DEEP,
+                kind: SyntaxFault::TooDeep,
                 place,
             });
         }
@@ -112,20 +105,25 @@ fn read(alloc: Global, bytes: &[u8]) -> Result<Script, ParseFault>
     match script_ended(state) {
         Some((apps, main)) => Ok(Script::of(apps, main, places)),
         None => Err(ParseFault::Refused {
-            kind: SYNTAX,
+            kind: SyntaxFault::Unexpected,
             place: bytes.len() as u32,
         }),
     }
 }
 
 /// What has been read with one more token, if a script goes on with it.
-fn stepped(alloc: Global, state: SoFar, place: u32, token: Token) -> Result<SoFar, ParseFault>
+fn stepped(
+    alloc: Global,
+    state: ParserState,
+    place: u32,
+    token: Token,
+) -> Result<ParserState, ParseFault>
     ensures { Steps state place token result }
 {
     match script_step(alloc, state, token)? {
         Some(next) => Ok(next),
         None => Err(ParseFault::Refused {
-            kind: SYNTAX,
+            kind: SyntaxFault::Unexpected,
             place,
         }),
     }

@@ -9,41 +9,36 @@ ghost use Rattle.app_script.specs.Pieces as spec;
 ghost use Rattle.app_script.specs.declared.piece.PieceFault.TheVariants.{NoMemory};
 
 use flow_base::Text;
-use script_tree::token::{Symbol, Token, Word};
+use script_tree::SyntaxFault;
+use script_tree::token::{Keyword, Symbol, Token};
 use std::alloc::{AllocError, AllocFailed, Global};
 
-/// The kind of a byte that begins no token.
-pub const BYTE_FAULT: u8 = 1;
-/// The kind of a text, a name or a lone `!` that is no token.
-pub const TOKEN_FAULT: u8 = 2;
-/// The kind of a run that begins with a digit and is no number.
-pub const NUMBER_FAULT: u8 = 3;
-
+/// The most bytes of a name.
 const MAX_NAME: usize = 64;
 
-const KEYWORDS: [(&[u8], Word); 22] = [
-    (b"app", Word::App),
-    (b"cached", Word::Cached),
-    (b"join", Word::Join),
-    (b"main", Word::Main),
-    (b"outputs", Word::Outputs),
-    (b"let", Word::Let),
-    (b"while", Word::While),
-    (b"for", Word::For),
-    (b"in", Word::In),
-    (b"if", Word::If),
-    (b"else", Word::Else),
-    (b"return", Word::Return),
-    (b"raise", Word::Raise),
-    (b"write", Word::Write),
-    (b"print", Word::Print),
-    (b"checkpoint", Word::Checkpoint),
-    (b"call", Word::Call),
-    (b"to", Word::To),
-    (b"and", Word::And),
-    (b"or", Word::Or),
-    (b"not", Word::Not),
-    (b"nothing", Word::Nothing),
+const KEYWORDS: [(&[u8], Keyword); 22] = [
+    (b"app", Keyword::App),
+    (b"cached", Keyword::Cached),
+    (b"join", Keyword::Join),
+    (b"main", Keyword::Main),
+    (b"outputs", Keyword::Outputs),
+    (b"let", Keyword::Let),
+    (b"while", Keyword::While),
+    (b"for", Keyword::For),
+    (b"in", Keyword::In),
+    (b"if", Keyword::If),
+    (b"else", Keyword::Else),
+    (b"return", Keyword::Return),
+    (b"raise", Keyword::Raise),
+    (b"write", Keyword::Write),
+    (b"print", Keyword::Print),
+    (b"checkpoint", Keyword::Checkpoint),
+    (b"call", Keyword::Call),
+    (b"to", Keyword::To),
+    (b"and", Keyword::And),
+    (b"or", Keyword::Or),
+    (b"not", Keyword::Not),
+    (b"nothing", Keyword::Nothing),
 ];
 
 const SYMBOLS: [(&[u8], Symbol); 20] = [
@@ -75,7 +70,8 @@ pub type Piece = (Token, usize);
 /// Why there is no piece.
 #[derive(Debug, Drop)]
 pub enum PieceFault {
-    Refused(u8),
+    /// What stands there is no token.
+    Refused(SyntaxFault),
     NoMemory,
 }
 
@@ -143,7 +139,7 @@ fn run_len(text: &[u8]) -> usize
     text.iter().take_while(|byte| is_in_name(**byte)).count()
 }
 
-fn word_in(table: &[(&[u8], Word)], run: &[u8]) -> Option<Word>
+fn word_in(table: &[(&[u8], Keyword)], run: &[u8]) -> Option<Keyword>
     ensures { result ≡ tables.lookup (map (λ e. (e.0.now, e.1)) table.now) run.now }
 {
     for (spelling, word) in table {
@@ -154,7 +150,7 @@ fn word_in(table: &[(&[u8], Word)], run: &[u8]) -> Option<Word>
     None
 }
 
-fn keyword(run: &[u8]) -> Option<Word>
+fn keyword(run: &[u8]) -> Option<Keyword>
     ensures { result ≡ tables.lookup lexing.keywords run.now }
 {
     word_in(&KEYWORDS, run)
@@ -168,7 +164,7 @@ fn begins_with(text: &[u8], spelling: &[u8]) -> bool
     text.starts_with(spelling)
 }
 
-fn symbol_in(table: &[(&[u8], Symbol)], text: &[u8]) -> Result<(Symbol, usize), u8>
+fn symbol_in(table: &[(&[u8], Symbol)], text: &[u8]) -> Result<(Symbol, usize), SyntaxFault>
     ensures { spec.symbol_of result ≡ lexing.symbol_piece (map (λ e. (e.0.now, e.1)) table.now) text.now }
 {
     for (spelling, symbol) in table {
@@ -177,13 +173,13 @@ fn symbol_in(table: &[(&[u8], Symbol)], text: &[u8]) -> Result<(Symbol, usize), 
         }
     }
     if begins_with(text, b"!") {
-        Err(TOKEN_FAULT)
+        Err(SyntaxFault::WrongToken)
     } else {
-        Err(BYTE_FAULT)
+        Err(SyntaxFault::WrongByte)
     }
 }
 
-fn symbol(text: &[u8]) -> Result<(Symbol, usize), u8>
+fn symbol(text: &[u8]) -> Result<(Symbol, usize), SyntaxFault>
     ensures { spec.symbol_of result ≡ lexing.symbol_piece lexing.symbols text.now }
 {
     symbol_in(&SYMBOLS, text)
@@ -256,7 +252,7 @@ fn text_end(alloc: Global, mut rest: &[u8]) -> Result<(Text, usize), PieceFault>
             }
         }
     }
-    Err(PieceFault::Refused(TOKEN_FAULT))
+    Err(PieceFault::Refused(SyntaxFault::WrongToken))
 }
 
 fn name_piece(alloc: Global, run: &[u8]) -> Result<Piece, PieceFault>
@@ -264,10 +260,10 @@ fn name_piece(alloc: Global, run: &[u8]) -> Result<Piece, PieceFault>
     ensures { spec.IsPiece result (lexing.name_piece run.now) }
 {
     if run.len() > MAX_NAME {
-        return Err(PieceFault::Refused(TOKEN_FAULT));
+        return Err(PieceFault::Refused(SyntaxFault::WrongToken));
     }
     let token = match keyword(run) {
-        Some(word) => Token::Word(word),
+        Some(word) => Token::Keyword(word),
         None => Token::Name(Text::from_bytes(Vec::from_slice(alloc, run)?)),
     };
     Ok((token, run.len()))
@@ -278,7 +274,7 @@ fn number_piece(run: &[u8]) -> Result<Piece, PieceFault>
 {
     match number_of(run) {
         Some(value) => Ok((Token::Number(value), run.len())),
-        None => Err(PieceFault::Refused(NUMBER_FAULT)),
+        None => Err(PieceFault::Refused(SyntaxFault::WrongNumber)),
     }
 }
 
@@ -305,7 +301,7 @@ pub fn front_piece(alloc: Global, text: &[u8]) -> Result<Piece, PieceFault>
     ensures { spec.IsPiece result (lexing.piece text.now) }
 {
     match text {
-        [] => Err(PieceFault::Refused(BYTE_FAULT)),
+        [] => Err(PieceFault::Refused(SyntaxFault::WrongByte)),
         [first, ..] if begins_name(*first) => name_piece(alloc, &text[..run_len(text)]),
         [first, ..] if first.is_ascii_digit() => number_piece(&text[..run_len(text)]),
         [b'"', rest @ ..] => text_piece(alloc, rest),

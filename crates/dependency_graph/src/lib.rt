@@ -4,7 +4,7 @@
 mod deep;
 mod inputs;
 mod matching;
-pub mod monitor;
+mod monitor;
 mod outcomes;
 mod readiness;
 mod resolved;

@@ -2,7 +2,7 @@
 #![tactic(auto)]
 
 pub mod entry;
-pub mod print;
+mod print;
 #[cfg(test)]
 mod tests;
 

@@ -6,65 +6,57 @@ use std::alloc::{AllocError, Global};
 use std::test::Fail;
 use task_record::Status;
 
-fn path(alloc: Global, numbers: &[u32]) -> Result<Path, AllocError> {
+// An entry of a task whose path has one number.
+#[derive(Clone, Copy)]
+enum Row {
+    Submit(u32),
+    Launch(u32),
+    Start(u32),
+    Ended(u32),
+    Settled(u32),
+    End,
+}
+
+fn task(alloc: Global, number: u32) -> Result<Path, AllocError> {
     let mut path = Path::new(alloc);
-    for number in numbers {
-        path.push(*number)?;
-    }
+    path.push(number)?;
     Ok(path)
 }
 
-fn submit(alloc: Global, task: u32) -> Result<Entry, AllocError> {
-    Ok(Entry::Submit {
-        path: path(alloc, &[task])?,
-        app: Text::of(alloc, "add")?,
-    })
+fn entry(alloc: Global, row: Row) -> Result<Entry, AllocError> {
+    match row {
+        Row::Submit(number) => Ok(Entry::Submit {
+            path: task(alloc, number)?,
+            app: Text::of(alloc, "add")?,
+        }),
+        Row::Launch(number) => Ok(Entry::Launch {
+            path: task(alloc, number)?,
+            attempt: 1,
+        }),
+        Row::Start(number) => Ok(Entry::Start {
+            path: task(alloc, number)?,
+            attempt: 1,
+            manager: 1,
+        }),
+        Row::Ended(number) => Ok(Entry::Ended {
+            path: task(alloc, number)?,
+            attempt: 1,
+            manager: 1,
+            ended: Text::of(alloc, "value")?,
+        }),
+        Row::Settled(number) => Ok(Entry::Settled {
+            path: task(alloc, number)?,
+            status: Status::ExecDone,
+        }),
+        Row::End => Ok(Entry::End),
+    }
 }
 
-fn launch(alloc: Global, task: u32) -> Result<Entry, AllocError> {
-    Ok(Entry::Launch {
-        path: path(alloc, &[task])?,
-        attempt: 1,
-    })
-}
-
-fn start(alloc: Global, task: u32) -> Result<Entry, AllocError> {
-    Ok(Entry::Start {
-        path: path(alloc, &[task])?,
-        attempt: 1,
-        manager: 1,
-    })
-}
-
-fn ended(alloc: Global, task: u32) -> Result<Entry, AllocError> {
-    Ok(Entry::Ended {
-        path: path(alloc, &[task])?,
-        attempt: 1,
-        manager: 1,
-        ended: Text::of(alloc, "value")?,
-    })
-}
-
-fn settled(alloc: Global, task: u32) -> Result<Entry, AllocError> {
-    Ok(Entry::Settled {
-        path: path(alloc, &[task])?,
-        status: Status::ExecDone,
-    })
-}
-
-// Each of two tasks is submitted, and then each runs.
-fn two_tasks(alloc: Global) -> Result<Entries, AllocError> {
+fn entries(alloc: Global, rows: &[Row]) -> Result<Entries, AllocError> {
     let mut entries = Entries::new(alloc);
-    for task in [1, 2] {
-        entries.push(submit(alloc, task)?)?;
+    for row in rows {
+        entries.push(entry(alloc, *row)?)?;
     }
-    for task in [1, 2] {
-        entries.push(launch(alloc, task)?)?;
-        entries.push(start(alloc, task)?)?;
-        entries.push(ended(alloc, task)?)?;
-        entries.push(settled(alloc, task)?)?;
-    }
-    entries.push(Entry::End)?;
     Ok(entries)
 }
 
@@ -72,7 +64,22 @@ fn printed(alloc: Global, entries: &Entries) -> Result<String, Fail> {
     Ok(String::from_utf8(print_log(alloc, entries)?)?)
 }
 
-const TWO_TASKS: &str = "submit 1 add
+// Each of two tasks is submitted, and then each runs.
+const TWO_TASKS: [Row; 11] = [
+    Row::Submit(1),
+    Row::Submit(2),
+    Row::Launch(1),
+    Row::Start(1),
+    Row::Ended(1),
+    Row::Settled(1),
+    Row::Launch(2),
+    Row::Start(2),
+    Row::Ended(2),
+    Row::Settled(2),
+    Row::End,
+];
+
+const TWO_TASKS_PRINTED: &str = "submit 1 add
 submit 2 add
 launch 1 try 1
 start 1 try 1 manager 1
@@ -87,22 +94,32 @@ end
 
 #[test]
 fn the_log_of_two_tasks(rt: HostRuntime) -> Result<(), Fail> {
-    let alloc = rt.alloc();
-    assert_eq!(rt; printed(alloc, &two_tasks(alloc)?)?.as_str(), TWO_TASKS);
+    let entries = entries(rt.alloc(), &TWO_TASKS)?;
+    assert_eq!(rt; printed(rt.alloc(), &entries)?.as_str(), TWO_TASKS_PRINTED);
     Ok(())
 }
 
-// A call of a join that a second manager ran in vain, at its third attempt.
-fn failed_call(alloc: Global) -> Result<Entries, AllocError> {
-    let mut entries = Entries::new(alloc);
-    entries.push(Entry::Ended {
-        path: path(alloc, &[1, 12])?,
+fn call_of_a_join(alloc: Global) -> Result<Path, AllocError> {
+    let mut path = task(alloc, 1)?;
+    path.push(12)?;
+    Ok(path)
+}
+
+// The third attempt of a call of a join, which a second manager ran.
+fn failed_attempt(alloc: Global) -> Result<Entry, AllocError> {
+    Ok(Entry::Ended {
+        path: call_of_a_join(alloc)?,
         attempt: 3,
         manager: 2,
         ended: Text::of(alloc, "ZeroDivisionError")?,
-    })?;
+    })
+}
+
+fn failed_call(alloc: Global) -> Result<Entries, AllocError> {
+    let mut entries = Entries::new(alloc);
+    entries.push(failed_attempt(alloc)?)?;
     entries.push(Entry::Settled {
-        path: path(alloc, &[1, 12])?,
+        path: call_of_a_join(alloc)?,
         status: Status::Failed,
     })?;
     Ok(entries)
@@ -114,7 +131,7 @@ settled 1.12 failed
 
 #[test]
 fn the_log_of_a_failed_call(rt: HostRuntime) -> Result<(), Fail> {
-    let alloc = rt.alloc();
-    assert_eq!(rt; printed(alloc, &failed_call(alloc)?)?.as_str(), FAILED_CALL);
+    let entries = failed_call(rt.alloc())?;
+    assert_eq!(rt; printed(rt.alloc(), &entries)?.as_str(), FAILED_CALL);
     Ok(())
 }

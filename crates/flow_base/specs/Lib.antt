@@ -6,3 +6,5 @@ pub mod Shelf
 pub mod Sink
 pub mod TextBytes
 pub mod Values
+pub mod Paths
+pub mod HostSink

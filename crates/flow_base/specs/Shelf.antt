@@ -15,7 +15,7 @@ pub record Stand : Type 0 where
   pub safe : ℕ
 
 -- a call that was Ok or failed
-pub record Call : Type 0 where
+pub record ShelfCall : Type 0 where
   pub kind : CallKind
   pub name : List ℕ
   pub failed : Bool
@@ -26,7 +26,7 @@ Stands = List ℕ → Option Stand
 
 pub record ShelfState : Type 0 where
   pub stands : Stands
-  pub calls : List Call
+  pub calls : List ShelfCall
   pub faults : ℕ
 
 -- a name is given this
@@ -38,11 +38,11 @@ abbrev pub Same : Stands → Stands → Type 0
 Same old new = (n : List ℕ) → new n ≡ old n
 
 -- the failed call in the list: none for want of memory
-abbrev pub noted : CallKind → List ℕ → ShelfFault → List Call
+abbrev pub noted : CallKind → List ℕ → ShelfFault → List ShelfCall
 noted kind name Failed = record { kind = kind; name = name; failed = true } ∷ []
 noted kind name NoMemory = []
 
-abbrev pub recorded : {T : Type 0} → CallKind → List ℕ → Result T ShelfFault → List Call
+abbrev pub recorded : {T : Type 0} → CallKind → List ℕ → Result T ShelfFault → List ShelfCall
 recorded kind name (Ok t) = record { kind = kind; name = name; failed = false } ∷ []
 recorded kind name (Err fault) = noted kind name fault
 

@@ -1,8 +1,8 @@
 //! A shelf over the files of the system.
 
-ghost use Rattle.std.specs.Prelude.{◌≡◌, ◌≤◌, ◌↔◌, [], false, None, length, IfOk};
+ghost use Rattle.std.specs.Prelude.{◌≡◌, ◌≤◌, ◌↔◌, [], false, None, Ok, length, take, Err, ◌≢◌, IfOk, IfErr, IfSome};
 ghost use Rattle.std.specs.IoError.{error_kind};
-ghost use Rattle.flow_base.specs.Shelf.{CountsFault};
+ghost use Rattle.flow_base.specs.Shelf.{Counted, CountsFault};
 
 use crate::shelf::{Shelf, ShelfFault};
 use std::alloc::Global;
@@ -16,6 +16,24 @@ pub struct HostShelf<R: Files + Drop> {
     rt: R,
     alloc: Global,
     faults: u64,
+}
+
+// The first `limit` bytes of a reader, or all where there are fewer.
+fn read_first<R: Read + Drop>(alloc: Global, reader: R, limit: u64) -> io::Result<Vec<u8>>
+    ensures first { IfOk result (λ bytes. IfSome (R.remaining reader) (λ left. bytes.items ≡ take limit left)) }
+    ensures short { IfOk result (λ bytes. length bytes.items ≤ limit) }
+{
+    let mut bytes = Vec::new(alloc);
+    reader.take(limit).read_to_end(&mut bytes)?;
+    // A reader that tells nothing might give more by its contract.
+    bytes.truncate(limit as usize);
+    Ok(bytes)
+}
+
+fn read_file<R: Files>(rt: &R, alloc: Global, name: &str, limit: u64) -> io::Result<Vec<u8>>
+    ensures { IfOk result (λ bytes. length bytes.items ≤ limit) }
+{
+    read_first(alloc, File::open(rt, name)?, limit)
 }
 
 impl<R: Files + Drop> HostShelf<R> {
@@ -42,17 +60,17 @@ impl<R: Files + Drop> HostShelf<R> {
         ShelfFault::Failed
     }
 
-    // Stops reading once `limit` bytes are there.
-    fn read_first(&self, name: &str, limit: u64) -> io::Result<Vec<u8>>
-        ensures { IfOk result (λ bytes. length bytes.items ≤ limit) }
+    // The answer to what the files gave: the same bytes, or the fault of the error.
+    fn answer(&mut self, read: io::Result<Vec<u8>>) -> Result<Vec<u8>, ShelfFault>
+        ensures bytes { IfOk read (λ bytes. result ≡ Ok bytes) }
+        ensures memory { IfErr read (λ error. result ≡ Err ShelfFault.NoMemory ↔ error_kind error ≡ ErrorKind.OutOfMemory) }
+        ensures failed { IfErr read (λ error. result ≡ Err ShelfFault.Failed ↔ error_kind error ≢ ErrorKind.OutOfMemory) }
+        ensures count { Counted self.old.faults self.new.faults result }
     {
-        let mut bytes = Vec::new(self.alloc);
-        File::open(&self.rt, name)?
-            .take(limit)
-            .read_to_end(&mut bytes)?;
-        // No clause of std says that there are no more.
-        bytes.truncate(limit as usize);
-        Ok(bytes)
+        match read {
+            Ok(bytes) => Ok(bytes),
+            Err(error) => Err(self.fault(&error)),
+        }
     }
 }
 
@@ -62,9 +80,7 @@ impl<R: Files + Drop> Shelf for HostShelf<R> {
     ghost state = { λ s. record { stands = λ name. None; calls = []; faults = s.faults } };
 
     fn read(&mut self, name: &str, limit: u64) -> Result<Vec<u8>, ShelfFault> {
-        match self.read_first(name, limit) {
-            Ok(bytes) => Ok(bytes),
-            Err(error) => Err(self.fault(&error)),
-        }
+        let read = read_file(&self.rt, self.alloc, name, limit);
+        self.answer(read)
     }
 }

@@ -1,22 +1,22 @@
 //! The base of every layer: values and outcomes, and the outside that a run reads from and writes to.
 #![tactic(auto)]
 
-pub mod copies;
-pub mod host_shelf;
-pub mod host_sink;
+mod copies;
+mod host_shelf;
+mod host_sink;
 mod mem_file;
-pub mod mem_shelf;
-pub mod mem_sink;
+mod mem_shelf;
+mod mem_sink;
 pub mod outcome;
-pub mod path;
-pub mod same;
+mod path;
+mod same;
 pub mod shelf;
-pub mod sink;
+mod sink;
 #[cfg(test)]
 mod tests;
-pub mod text;
+mod text;
 pub mod value;
-pub mod word;
+mod word;
 
 pub use host_shelf::HostShelf;
 pub use host_sink::HostSink;
@@ -25,11 +25,11 @@ pub use mem_sink::MemSink;
 pub use outcome::{
     Ended, Ending, Evaluation, Exception, FileOut, Files, Outcome, TaskEnd, TaskEnds,
 };
-pub use path::{Path, Paths};
+pub use path::{MAX_PATH, Path, Paths};
 pub use shelf::{CallKind, Shelf, ShelfFault};
 pub use sink::{Failed, Sink, write_whole};
 pub use text::{Names, Text};
-pub use value::{Items, Value};
+pub use value::{Items, MAX_LEVELS, MAX_UNITS, Value};
 pub use word::{Word, Words};
 
 /// The allocator had no memory left. A refused call leaves its objects as they were.

@@ -2,8 +2,8 @@
 
 ghost use Rattle.std.specs.Prelude.{◌≡◌, ◌<◌, IfOk, OnOk, OnErr, IfSome, MatchOption, None, option_map, bytes_eq, take, length};
 ghost use Rattle.std.specs.Option.{option_copied};
-ghost use Rattle.flow_base.specs.MemShelf.{Entry, First, stand_of, stands_of};
-ghost use Rattle.flow_base.specs.Shelf.{Call, Same, Stand, put};
+ghost use Rattle.flow_base.specs.MemShelf.{NamedFile, First, stand_of, stands_of};
+ghost use Rattle.flow_base.specs.Shelf.{ShelfCall, Same, Stand, put};
 
 use crate::shelf::CallKind;
 use std::alloc::{AllocError, Global};
@@ -19,9 +19,9 @@ pub struct MemFile {
 
 impl Model for MemFile {
     ghost use Rattle.std.specs.Prelude.{string_bytes};
-    ghost use Rattle.flow_base.specs.MemShelf.{Entry};
+    ghost use Rattle.flow_base.specs.MemShelf.{NamedFile};
 
-    ghost Value = { Entry };
+    ghost Value = { NamedFile };
 
     ghost view = { λ f. record { name = string_bytes f.name; held = f.held.items; safe = f.safe } };
 }
@@ -159,9 +159,9 @@ pub struct NotedCall {
 
 impl Model for NotedCall {
     ghost use Rattle.std.specs.Prelude.{string_bytes};
-    ghost use Rattle.flow_base.specs.Shelf.{Call};
+    ghost use Rattle.flow_base.specs.Shelf.{ShelfCall};
 
-    ghost Value = { Call };
+    ghost Value = { ShelfCall };
 
     ghost view = { λ c. record { kind = c.kind; name = string_bytes c.name; failed = c.failed } };
 }

@@ -26,13 +26,13 @@ impl Model for MemShelf {
 
     ghost Value = { MemShelfState };
 
-    ghost view = { λ s. record { entries = s.files.items; calls = s.calls.items; failing = s.failing.items; made = s.made; faults = s.faults } };
+    ghost view = { λ s. record { files = s.files.items; calls = s.calls.items; failing = s.failing.items; made = s.made; faults = s.faults } };
 }
 
 impl MemShelf {
     /// A shelf with no file.
     pub fn new(alloc: Global) -> MemShelf
-        ensures { result ≡ record { entries = []; calls = []; failing = []; made = 0; faults = 0 } }
+        ensures { result ≡ record { files = []; calls = []; failing = []; made = 0; faults = 0 } }
     {
         MemShelf {
             alloc,
@@ -46,8 +46,8 @@ impl MemShelf {
 
     /// Gives a name these bytes, all of them safe, in place of what it had. This is no call of the trait.
     pub fn put(&mut self, name: &str, bytes: &[u8]) -> Result<(), AllocError>
-        ensures ok { OnOk result (Same (put (stands_of self.old.entries) name.now (record { held = bytes.now; safe = length bytes.now })) (stands_of self.new.entries)) }
-        ensures rest { self.new ≡ record self.old { entries = self.new.entries } }
+        ensures ok { OnOk result (Same (put (stands_of self.old.files) name.now (record { held = bytes.now; safe = length bytes.now })) (stands_of self.new.files)) }
+        ensures rest { self.new ≡ record self.old { files = self.new.files } }
         ensures err { OnErr result (self.new ≡ self.old) }
     {
         put_file(self.alloc, &mut self.files, name, bytes)
@@ -64,7 +64,7 @@ impl MemShelf {
 
     /// The bytes that a name holds.
     pub fn held(&self, name: &str) -> Option<&[u8]>
-        ensures { MatchOption result (stands_of self.now.entries name.now ≡ None) (λ bytes. option_map Stand.held (stands_of self.now.entries name.now) ≡ Some bytes.now) }
+        ensures { MatchOption result (stands_of self.now.files name.now ≡ None) (λ bytes. option_map Stand.held (stands_of self.now.files name.now) ≡ Some bytes.now) }
     {
         match file_named(&self.files, name) {
             Some(file) => Some(file.held()),
@@ -74,7 +74,7 @@ impl MemShelf {
 
     /// How many bytes of a name are safe.
     pub fn safe(&self, name: &str) -> Option<u64>
-        ensures { result ≡ option_map Stand.safe (stands_of self.now.entries name.now) }
+        ensures { result ≡ option_map Stand.safe (stands_of self.now.files name.now) }
     {
         match file_named(&self.files, name) {
             Some(file) => Some(file.safe()),
@@ -117,7 +117,7 @@ impl MemShelf {
 impl Shelf for MemShelf {
     ghost tells = { true };
 
-    ghost state = { λ s. record { stands = stands_of s.entries; calls = s.calls; faults = s.faults } };
+    ghost state = { λ s. record { stands = stands_of s.files; calls = s.calls; faults = s.faults } };
 
     /// Fails exactly where the number of the call is in the list or the name isn't there.
     fn read(&mut self, name: &str, limit: u64) -> Result<Vec<u8>, ShelfFault>

@@ -8,8 +8,10 @@ use crate::text::Text;
 use crate::value::{Items, Value};
 use sqlite_items::Items as ListOf;
 
+/// The files of an app with outputs, one an output.
 pub type Files = ListOf<FileOut>;
 
+/// Tasks with their outcomes, by path.
 pub type TaskEnds = ListOf<TaskEnd>;
 
 /// Why a body or a task has no value.

@@ -1,6 +1,7 @@
 //! The names of tasks.
 
 ghost use Rattle.std.specs.Prelude.{◌≡◌, ◌++◌, ◌∷◌, [], ◌<◌, ◌≤◌, length, slice_get, IfOk, OnOk, OnErr};
+ghost use Rattle.flow_base.specs.Paths.{max_path};
 
 use sqlite_items::Items as ListOf;
 use std::alloc::{AllocError, Global};
@@ -13,7 +14,11 @@ pub struct Path {
     numbers: Vec<u32>,
 }
 
+/// A list of paths.
 pub type Paths = ListOf<Path>;
+
+/// The most numbers of a task's path.
+pub const MAX_PATH: usize = 64;
 
 impl Model for Path {
     ghost use Rattle.std.specs.Prelude.{List, ℕ};
@@ -35,7 +40,7 @@ impl Path {
 
     /// The path of the k-th call of this task.
     pub fn child(&self, alloc: Global, k: u32) -> Result<Path, AllocError>
-        requires short { length self.now < 64 }
+        requires short { length self.now < max_path }
         requires counted { 1 ≤ k }
         ensures { IfOk result (λ path. path ≡ self.now ++ k ∷ []) }
     {
@@ -53,6 +58,7 @@ impl Path {
         })
     }
 
+    /// One more number at its end.
     pub fn push(&mut self, number: u32) -> Result<(), AllocError>
         ensures ok { OnOk result (self.new ≡ self.old ++ number ∷ []) }
         ensures err { OnErr result (self.new ≡ self.old) }
@@ -61,6 +67,7 @@ impl Path {
         Ok(())
     }
 
+    /// How many numbers it has.
     pub fn len(&self) -> usize
         ensures { result ≡ length self.now }
     {

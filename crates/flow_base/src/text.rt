@@ -13,6 +13,7 @@ pub struct Text {
     text: String,
 }
 
+/// A list of names.
 pub type Names = ListOf<Text>;
 
 impl Model for Text {
@@ -86,18 +87,21 @@ impl Text {
         self.text.as_bytes().get(place).copied()
     }
 
+    /// How many bytes it has.
     pub fn len(&self) -> usize
         ensures { result ≡ length self.now }
     {
         self.text.len()
     }
 
+    /// Whether it has none.
     pub fn is_empty(&self) -> bool
         ensures { result ≡ bytes_eq self.now [] }
     {
         self.text.is_empty()
     }
 
+    /// Its bytes.
     pub fn as_slice(&self) -> &[u8]
         ensures value { result.now ≡ self.now }
         ensures text { All IsTextByte self.now }
@@ -105,6 +109,7 @@ impl Text {
         self.text.as_bytes()
     }
 
+    /// Its bytes as a string.
     pub fn as_str(&self) -> &str
         ensures { result.now ≡ self.now }
     {

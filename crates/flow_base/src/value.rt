@@ -11,6 +11,12 @@ use std::alloc::{AllocError, Global};
 /// A list of values.
 pub type Items = ListOf<Value>;
 
+/// The most units of a value: bytes of text and nodes.
+pub const MAX_UNITS: u64 = 65_536;
+
+/// The most levels of lists of a value.
+pub const MAX_LEVELS: u32 = 64;
+
 /// What an expression gives.
 #[derive(Drop)]
 pub enum Value {
@@ -73,11 +79,11 @@ impl Value {
         }
     }
 
-    /// Whether it is within the limits of a value: 65,536 units and 64 levels.
+    /// Whether it is within the limits of a value: `MAX_UNITS` units and `MAX_LEVELS` levels.
     pub fn fits(&self) -> bool
         ensures { result ≡ fits self.now }
     {
-        self.size() <= 65536 && self.levels() <= 64
+        self.size() <= MAX_UNITS && self.levels() <= MAX_LEVELS
     }
 
     /// Whether no future and no output stands in it.

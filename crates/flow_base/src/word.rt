@@ -12,6 +12,7 @@ pub struct Word {
     text: String,
 }
 
+/// The words of a command line, without the program's name.
 pub type Words = ListOf<Word>;
 
 impl Model for Word {

@@ -34,7 +34,7 @@ pub perform-Ask : {A S : Type 0} (answer : Request → S → Answer × S) (w : R
 perform-Ask answer w go s = refl
 
 -- what comes behind a part of a body comes behind each of its ends
-pub bind-assoc : {A B C : Type 0} (a : Act A) (f : A → Act B) (g : B → Act C) → ((a >>= f) >>= g) ≡ (a >>= λ x. f x >>= g)
-bind-assoc (Give x) f g = refl
-bind-assoc (Throw x) f g = refl
-bind-assoc (Ask w go) f g = λ i. Ask w (λ r. bind-assoc (go r) f g i)
+pub bind_assoc : {A B C : Type 0} (a : Act A) (f : A → Act B) (g : B → Act C) → ((a >>= f) >>= g) ≡ (a >>= λ x. f x >>= g)
+bind_assoc (Give x) f g = refl
+bind_assoc (Throw x) f g = refl
+bind_assoc (Ask w go) f g = λ i. Ask w (λ r. bind_assoc (go r) f g i)

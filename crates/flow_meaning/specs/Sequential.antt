@@ -1,6 +1,7 @@
 -- The rule of a call, and the sequential evaluation.
-use Rattle.std.specs.Prelude.{ℕ, zero, suc, Bool, true, false, if◌then◌else◌, List, [], ◌∷◌, ◌++◌, length, map, Option, Some, None, Result, Ok, Err, bytes_eq, slice_get, filter}
+use Rattle.std.specs.Prelude.{ℕ, zero, suc, ◌-◌, Bool, true, false, if◌then◌else◌, List, [], ◌∷◌, ◌++◌, length, map, Option, Some, None, Result, Ok, Err, bytes_eq, slice_get, filter}
 use Rattle.std.specs.List.{list_all}
+use Rattle.flow_base.specs.Paths.{max_path}
 use Rattle.flow_base.specs.declared.value.Value.{Value, out-Value}
 use Rattle.flow_base.specs.declared.value.Value.TheOpen.{Value-F}
 use Rattle.flow_base.specs.declared.value.Value.TheVariants as v
@@ -260,16 +261,16 @@ ending_of (Err exception) = ending.Raised exception
 abbrev pub sequential : Result Done Exception × Main → Sequential
 sequential r = record { tasks = r.1.made.tasks; acts = r.1.acts; printed = r.1.printed; ending = ending_of r.0 }
 
--- how many numbers a path has at most
-abbrev pub max_path : ℕ
-max_path = 64
+-- how many numbers may follow the one of a call of main
+abbrev pub main_room : ℕ
+main_room = max_path - 1
 
 abbrev pub at_start : Main
 at_start = record { made = no_calls; acts = []; printed = [] }
 
 -- main, its calls settled at once by the rule
 unfoldable pub main_ran : List AppDef → Block → (Path → Option ℕ) → Result Done Exception × Main
-main_ran apps main losses = perform (main_answer (rule apps losses 63)) (body (app_names apps losses) main [] [] []) at_start
+main_ran apps main losses = perform (main_answer (rule apps losses main_room)) (body (app_names apps losses) main [] [] []) at_start
 
 -- the sequential evaluation of a script, with these losses
 unfoldable pub seq : List AppDef → Block → (Path → Option ℕ) → Sequential

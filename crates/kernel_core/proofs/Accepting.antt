@@ -1,6 +1,6 @@
 -- A turn that is taken refuses nothing.
-use Rattle.std.specs.Prelude.{◌||◌}
-use Rattle.std.proofs.Common.{◌≡◌, refl, sym, ap, ◌∙◌, ℕ, true, false, List, [], ◌∷◌, Option, Some, None, Bool}
+use Rattle.std.proofs.Common.{◌≡◌, refl, ap, ◌∙◌, ℕ, true, false, List, [], ◌∷◌, Option, Some, None, Bool}
+use Rattle.std.proofs.lemmas.Bool.{or_parts}
 use Rattle.flow_base.specs.declared.outcome.Outcome.{Outcome}
 use Rattle.flow_base.specs.declared.outcome.Outcome.TheVariants as o
 use Rattle.flow_base.specs.declared.outcome.Exception.{Exception}
@@ -10,7 +10,7 @@ use Rattle.dependency_graph.specs.declared.readiness.Readiness.{Readiness}
 use Rattle.dependency_graph.specs.declared.readiness.Readiness.TheVariants as readiness
 use Rattle.dependency_graph.specs.Readiness.{ready}
 use Rattle.small_meaning.specs.Plan.{place_of}
-use Rattle.flow_laws.specs.Reads.{has_end}
+use Rattle.history_laws.specs.Reads.{has_end}
 use Rattle.kernel_model.specs.declared.answers.Delivered.{Delivered}
 use Rattle.kernel_model.specs.declared.answers.Delivered.TheVariants.{Taken, Stale}
 use Rattle.kernel_model.specs.Known.{Known, known, call_at, settled_outcome, has_ended}
@@ -18,11 +18,7 @@ use Rattle.kernel_model.specs.Jobs.{JobView, DoneView}
 use Rattle.kernel_model.specs.Turns.{with_outcome, statement_step, unless_raised, carried_out, script_step, CallbackTurn, FetchTurn, DeliverTurn, SettleTurn, EndTurn}
 
 pub going_accepts : (w : Known) → has_ended w ≡ false → w.refused ≡ false
-going_accepts w going = by_test w.refused refl
-  where
-    by_test : (t : Bool) → w.refused ≡ t → w.refused ≡ false
-    by_test false e = e
-    by_test true e = let bad : (true || has_end w.past) ≡ false = ap (λ (t : Bool). t || has_end w.past) (sym e) ∙ going in absurd (cc)
+going_accepts w going = (or_parts w.refused (has_end w.past) going).0
 
 with_outcome-accepts : (w : Known) (k : ℕ) (rest : List SmallStatement) (r : Option Outcome) → (with_outcome w k rest r).1.refused ≡ w.refused
 with_outcome-accepts w k rest None = refl

@@ -4,7 +4,7 @@ use Rattle.std.specs.Prelude.{slice_get}
 use Rattle.script_tree.specs.declared.tree.AppDef.{AppDef}
 use Rattle.script_tree.specs.Small.{tree_of}
 use Rattle.task_record.specs.declared.status.Status.TheVariants as status
-use Rattle.flow_laws.specs.Tables.{joins}
+use Rattle.history_laws.specs.Tables.{joins}
 use Rattle.kernel_model.specs.Jobs.{JobView}
 use Rattle.kernel_model.specs.Known.{Known, call_at, status_at, apps_in}
 use Rattle.kernel_model.specs.Invariants.{Inv, HasRun}

@@ -17,8 +17,8 @@ use Rattle.task_record.specs.declared.status.Status.TheVariants as status
 use Rattle.event_log.specs.declared.entry.Entry.{Entry}
 use Rattle.event_log.specs.declared.entry.Entry.TheVariants as entry
 use Rattle.flow_meaning.specs.Evaluations.{name_in}
-use Rattle.flow_laws.specs.Reads.{History, has_end}
-use Rattle.flow_laws.specs.Legal.{IsComplete}
+use Rattle.history_laws.specs.Reads.{History, has_end}
+use Rattle.history_laws.specs.Legal.{IsComplete}
 use Rattle.flow_meaning.specs.Operators.{Text}
 use Rattle.dependency_graph.specs.declared.monitor.Settlement.{Settlement}
 use Rattle.small_meaning.specs.Plan.{place_of, names_of, argument_in}
@@ -29,8 +29,8 @@ use Rattle.kernel_model.specs.Turns.{script_step, statement_step, unless_raised}
 use Rattle.kernel_model.specs.Invariants.{Inv}
 use Rattle.kernel_model.proofs.KeepingMain.{keep-submitted, keep-printed, keep-raised}
 use Rattle.kernel_model.proofs.Facts.{legal-now, outcome-now, complete-now, evaluation-now}
-use Rattle.kernel_core.specs.declared.kernel.Act.{Act}
-use Rattle.kernel_core.specs.declared.kernel.Act.TheVariants as act
+use Rattle.kernel_core.specs.declared.kernel.MainStep.{MainStep}
+use Rattle.kernel_core.specs.declared.kernel.MainStep.TheVariants as act
 use Rattle.kernel_core.specs.declared.task.Task.{Task}
 use Rattle.kernel_core.specs.declared.walk.NewCall.{NewCall}
 use Rattle.kernel_core.specs.declared.walk.Next.TheVariants as next
@@ -147,7 +147,7 @@ drop_behind (suc n) (s ∷ ss) = drop_behind n ss
 drop-next : (n : ℕ) (ss : List SmallStatement) → drop (n + 1) ss ≡ behind (drop n ss)
 drop-next n ss = let more : n + 1 ≡ suc n = omega arith in ap (λ m. drop m ss) more ∙ drop_behind n ss
 
-pub view-printed : (script : SmallScript) (done : ℕ) (variables : List Text) (raised : Option Exception) (tasks : List Task) (acts : List Act) (log : List Entry) (refused : Bool) (told : List (List Settlement)) (k : ℕ) (value : Value)
+pub view-printed : (script : SmallScript) (done : ℕ) (variables : List Text) (raised : Option Exception) (tasks : List Task) (acts : List MainStep) (log : List Entry) (refused : Bool) (told : List (List Settlement)) (k : ℕ) (value : Value)
     → known_with script (done + 1) variables raised tasks ((acts ++ act.Wait k ∷ []) ++ act.Print value ∷ []) log refused told
     ≡ printed (known_with script done variables raised tasks acts log refused told) k value (rest_behind (known_with script done variables raised tasks acts log refused told))
 view-printed script done variables raised tasks acts log refused told k value = rw (drop-next, map-append, map-append) refl
@@ -198,7 +198,7 @@ fresh call k = record { path = path_of k; app = call.app; arguments = call.argum
 abbrev pub unended : Record → Task
 unended r = record { «record» = r; end = None }
 
-pub view-submitted : (script : SmallScript) (done : ℕ) (variables : List Text) (raised : Option Exception) (tasks : List Task) (acts : List Act) (log : List Entry) (refused : Bool) (told : List (List Settlement))
+pub view-submitted : (script : SmallScript) (done : ℕ) (variables : List Text) (raised : Option Exception) (tasks : List Task) (acts : List MainStep) (log : List Entry) (refused : Bool) (told : List (List Settlement))
     → (call : NewCall) (k : ℕ) (path : List ℕ) (r : Record) (name : Text) → k ≡ length tasks → path ≡ path_of k → r ≡ fresh call k → name ≡ name_in (slice_get (map app_of script.apps) call.app)
     → known_with script (done + 1) (variables ++ call.variable ∷ []) raised (tasks ++ unended r ∷ []) (acts ++ act.Call k ∷ []) (log ++ entry.Submit path name ∷ []) refused told
     ≡ submitted_as (known_with script done variables raised tasks acts log refused told) call (rest_behind (known_with script done variables raised tasks acts log refused told))

@@ -11,7 +11,7 @@ use Rattle.flow_meaning.specs.Sequential.{MainAct}
 use Rattle.kernel_model.specs.Known.{Known, path_of, outcome_in, printed_in}
 use Rattle.kernel_model.specs.Evaluated.{evaluated, ended_task, ends_from, main_ending}
 use Rattle.kernel_core.specs.declared.task.Task.{Task}
-use Rattle.kernel_core.specs.declared.kernel.Act.{Act}
+use Rattle.kernel_core.specs.declared.kernel.MainStep.{MainStep}
 use Rattle.kernel_core.specs.Tasks.{call_of, life_of, act_of, AreNumbered}
 use Rattle.kernel_core.specs.Parts.{ended_with, with_end, ends_in, parts_of}
 
@@ -27,7 +27,7 @@ ends_numbered apps k [] numbered = refl
 ends_numbered apps k (t ∷ ts) numbered = end_numbered apps k t (outcome_in (life_of t)) (ends_in apps ts) (ends_from apps (suc k) (map call_of ts) (map life_of ts)) numbered.0 (ends_numbered apps (suc k) ts numbered.1)
 
 -- what is given back is the evaluation
-pub parts_are : (v w : Known) (tasks : List Task) (acts : List Act) → v ≡ w → v.calls ≡ map call_of tasks → v.lives ≡ map life_of tasks → v.acts ≡ map act_of acts → AreNumbered 0 tasks
+pub parts_are : (v w : Known) (tasks : List Task) (acts : List MainStep) → v ≡ w → v.calls ≡ map call_of tasks → v.lives ≡ map life_of tasks → v.acts ≡ map act_of acts → AreNumbered 0 tasks
     → parts_of (map app_of v.script.apps) tasks acts v.raised ≡ evaluated w
 unfolding tree_of
 parts_are v w tasks acts same calls lives done numbered =

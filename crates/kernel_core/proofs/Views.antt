@@ -8,7 +8,6 @@ use Rattle.flow_base.specs.declared.outcome.Outcome.{Outcome}
 use Rattle.flow_base.specs.declared.outcome.Outcome.TheVariants as o
 use Rattle.flow_base.specs.declared.outcome.Ended.{Ended}
 use Rattle.flow_base.specs.declared.outcome.Ended.TheVariants as ended
-use Rattle.script_tree.specs.Small.{app_of, tree_of}
 use Rattle.task_record.specs.declared.status.Status.{Status}
 use Rattle.task_record.specs.declared.status.Status.TheVariants as status
 use Rattle.task_record.specs.Tasks.{Task as TaskRecord}
@@ -16,16 +15,16 @@ use Rattle.task_record.specs.Transitions.{may_become}
 use Rattle.event_log.specs.declared.entry.Entry.{Entry}
 use Rattle.event_log.specs.declared.entry.Entry.TheVariants as entry
 use Rattle.flow_meaning.specs.Inputs.{Path}
-use Rattle.flow_meaning.specs.Sequential.{outcome_at, outcome_of}
+use Rattle.flow_meaning.specs.Sequential.{outcome_of}
 use Rattle.small_meaning.proofs.Sums.{and-true}
-use Rattle.flow_laws.specs.Tables.{status_of}
-use Rattle.kernel_model.specs.Known.{Known, Life, no_life, path_of, call_at, life_at, status_at, known, end_at, word_of, apps_in}
+use Rattle.history_laws.specs.Tables.{status_of}
+use Rattle.kernel_model.specs.Known.{Known, Life, no_life, path_of, call_at, life_at, status_at, known, end_at, word_of}
 use Rattle.kernel_model.specs.Invariants.{HasRun, Inv}
 use Rattle.kernel_model.specs.Acts.{put, launched, started, finished, settled_as}
 use Rattle.kernel_model.specs.Conditions.{CanLaunch, CanStart, CanFinish, CanFail, AttemptIsOver}
-use Rattle.kernel_model.proofs.Places.{known-at, known-only, status-within}
-use Rattle.kernel_model.proofs.Agreeing.{AreInts, IsSmallEnd, small-end}
-use Rattle.kernel_model.proofs.KeepingTasks.{keep-launched, keep-started, keep-finished, keep-failed, keep-settled}
+use Rattle.kernel_model.proofs.Places.{status-within}
+use Rattle.kernel_model.proofs.Agreeing.{IsSmallEnd, small-end}
+use Rattle.kernel_model.proofs.KeepingTasks.{keep-launched, keep-started, keep-finished, keep-failed, keep-settled, apps-are, known-ints}
 use Rattle.kernel_core.specs.Tasks.{call_of, life_of, AreNumbered, runs, running_in}
 use Rattle.kernel_core.specs.declared.task.Task.{Task}
 
@@ -306,16 +305,6 @@ fail-keeps w v tasks log same_log log_after running k t u s r path exception sta
     (is ∙ ap (λ (u : Known). settled_as u k outcome) view) (subst (λ (u : Known). Inv (settled_as u k outcome)) view inv))
 
 -- ---- settling by the end of an attempt
-
-apps-are : (w : Known) → apps_in w ≡ map app_of w.script.apps
-unfolding tree_of
-apps-are w = refl
-
--- the values that are known are Ints
-known-ints : (w : Known) → Inv w → AreInts (known w)
-known-ints w inv p value files h =
-    let below = known-only w p (o.Value value files) h in
-    inv.ints below.number value files (sym (known-at w below.number inv.lives) ∙ ap (outcome_at (known w)) (sym below.is) ∙ h)
 
 -- the end of a body is an Int, or OverflowError
 end-state : (P : Status → Type 0) → P status.ExecDone → P status.Failed → (e : Ended) → IsSmallEnd e → P (status_of (outcome_of e))

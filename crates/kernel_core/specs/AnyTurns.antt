@@ -4,9 +4,9 @@ use Rattle.flow_base.specs.declared.outcome.Outcome.{Outcome}
 use Rattle.script_tree.specs.declared.tree.AppDef.{AppDef}
 use Rattle.script_tree.specs.Small.{tree_of}
 use Rattle.flow_meaning.specs.Sequential.{outcome_at, seq}
-use Rattle.flow_laws.specs.Reads.{lost, has_end}
-use Rattle.flow_laws.specs.Tables.{table}
-use Rattle.flow_laws.specs.Legal.{IsLegal, IsComplete}
+use Rattle.history_laws.specs.Reads.{lost, has_end}
+use Rattle.history_laws.specs.Tables.{table}
+use Rattle.history_laws.specs.Legal.{IsLegal, IsComplete}
 use Rattle.flow_meaning.specs.Evaluations.{evaluation_in}
 use Rattle.kernel_model.specs.Known.{Known, has_ended, no_retries, path_of, settled_outcome, apps_in}
 use Rattle.kernel_model.specs.Evaluated.{evaluated}

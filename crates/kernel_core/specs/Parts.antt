@@ -9,7 +9,7 @@ use Rattle.flow_meaning.specs.Evaluations.{name_in}
 use Rattle.kernel_model.specs.Known.{outcome_in, printed_in}
 use Rattle.kernel_model.specs.Evaluated.{main_ending}
 use Rattle.kernel_core.specs.declared.task.Task.{Task}
-use Rattle.kernel_core.specs.declared.kernel.Act.{Act}
+use Rattle.kernel_core.specs.declared.kernel.MainStep.{MainStep}
 use Rattle.kernel_core.specs.Tasks.{life_of, act_of}
 
 abbrev pub ended_with : List AppDef → Task → Option Outcome → Option TaskEnd
@@ -29,5 +29,5 @@ abbrev pub ends_in : List AppDef → List Task → List TaskEnd
 ends_in apps [] = []
 ends_in apps (t ∷ ts) = with_end (end_of apps t) (ends_in apps ts)
 
-abbrev pub parts_of : List AppDef → List Task → List Act → Option Exception → Evaluation
+abbrev pub parts_of : List AppDef → List Task → List MainStep → Option Exception → Evaluation
 parts_of apps tasks acts raised = record { printed = printed_in (map act_of acts); tasks = ends_in apps tasks; main = main_ending raised }

@@ -5,8 +5,8 @@ use Rattle.task_record.specs.declared.status.Status.{Status}
 use Rattle.task_record.specs.declared.status.Status.TheVariants as status
 use Rattle.kernel_model.specs.Known.{Call, Life, path_of, known_from}
 use Rattle.kernel_core.specs.declared.task.Task.{Task}
-use Rattle.kernel_core.specs.declared.kernel.Act.{Act}
-use Rattle.kernel_core.specs.declared.kernel.Act.TheVariants as act
+use Rattle.kernel_core.specs.declared.kernel.MainStep.{MainStep}
+use Rattle.kernel_core.specs.declared.kernel.MainStep.TheVariants as act
 
 abbrev pub call_of : Task → Call
 call_of t = record { app = t.record.app; arguments = t.record.arguments; names = t.record.names }
@@ -43,7 +43,7 @@ abbrev pub running_in : List Life → ℕ
 running_in [] = 0
 running_in (life ∷ lives) = runs life.status + running_in lives
 
-abbrev pub act_of : Act → MainAct
+abbrev pub act_of : MainStep → MainAct
 act_of (act.Call k) = Calls (path_of k)
 act_of (act.Wait k) = Waits (path_of k)
 act_of (act.Print value) = Prints value

@@ -10,11 +10,11 @@ use Rattle.dependency_graph.specs.declared.monitor.Settlement.{Settlement}
 use Rattle.small_meaning.specs.Plan.{is_sound}
 use Rattle.kernel_model.specs.Known.{Known}
 use Rattle.kernel_model.specs.Acts.{started_with}
-use Rattle.kernel_core.specs.declared.kernel.Act.{Act}
+use Rattle.kernel_core.specs.declared.kernel.MainStep.{MainStep}
 use Rattle.kernel_core.specs.declared.task.Task.{Task}
 use Rattle.kernel_core.specs.Tasks.{call_of, life_of, act_of}
 
-abbrev pub known_with : SmallScript → ℕ → List Text → Option Exception → List Task → List Act → List Entry → Bool → List (List Settlement) → Known
+abbrev pub known_with : SmallScript → ℕ → List Text → Option Exception → List Task → List MainStep → List Entry → Bool → List (List Settlement) → Known
 known_with script done variables raised tasks acts log refused told = record {
   script = script;
   rest = drop done script.main;

@@ -13,7 +13,7 @@ ghost use Rattle.kernel_model.specs.Turns.{script_step};
 ghost use Rattle.kernel_core.specs.declared.walk.Next.TheVariants as next;
 ghost use Rattle.kernel_core.specs.Next.{IsNext, HasValue, HasFailed, rest_behind};
 
-use crate::kernel::{Act, Kernel};
+use crate::kernel::{Kernel, MainStep};
 use crate::task::{Task, status_of};
 use crate::walk::NewCall;
 use dependency_graph::Monitor;
@@ -137,7 +137,7 @@ impl<M: Monitor> Kernel<M> {
         record.pending();
         self.variables.push_reserved(call.variable);
         self.tasks.push_reserved(Task { record, end: None });
-        self.acts.push_reserved(Act::Call(k));
+        self.acts.push_reserved(MainStep::Call(k));
         self.log.push_reserved(Entry::Submit {
             path: submitted,
             app,
@@ -154,8 +154,8 @@ impl<M: Monitor> Kernel<M> {
         ensures err { OnErr result (self.new ≡ self.old) }
     {
         self.acts.reserve(2)?;
-        self.acts.push_reserved(Act::Wait(k));
-        self.acts.push_reserved(Act::Print(value));
+        self.acts.push_reserved(MainStep::Wait(k));
+        self.acts.push_reserved(MainStep::Print(value));
         self.done += 1;
         Ok(())
     }
@@ -168,7 +168,7 @@ impl<M: Monitor> Kernel<M> {
         ensures err { OnErr result (self.new ≡ self.old) }
     {
         self.acts.reserve(1)?;
-        self.acts.push_reserved(Act::Wait(k));
+        self.acts.push_reserved(MainStep::Wait(k));
         self.raised = Some(exception);
         Ok(())
     }

@@ -1,7 +1,7 @@
 //! Jobs: attempts that were fetched, and their ends.
 
 ghost use Rattle.std.specs.Prelude.{◌≡◌, IfOk};
-ghost use Rattle.flow_laws.specs.Tables.{kind_of};
+ghost use Rattle.history_laws.specs.Tables.{kind_of};
 ghost use Rattle.kernel_model.specs.Turns.{IsEndOf};
 ghost use Rattle.kernel_core.specs.Jobs.{FitsApps};
 
@@ -47,7 +47,7 @@ impl Model for Done {
     ghost use Rattle.std.specs.Prelude.{◌≡◌};
     ghost use Rattle.flow_base.specs.contracts.value.Value as value;
     ghost use Rattle.std.specs.Coded.{codes};
-    ghost use Rattle.flow_laws.specs.Tables.{kind_of};
+    ghost use Rattle.history_laws.specs.Tables.{kind_of};
     ghost use Rattle.kernel_model.specs.Jobs.{DoneView};
 
     ghost Value = { DoneView };

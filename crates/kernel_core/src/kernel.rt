@@ -4,7 +4,7 @@ ghost use Rattle.std.specs.Prelude.{◌≡◌, ◌<◌, ◌^◌, [], ◌∷◌, 
 ghost use Rattle.std.specs.Arc.{arc_value};
 ghost use Rattle.script_tree.specs.Small.{IsSmall, tree_of};
 ghost use Rattle.small_meaning.specs.Plan.{is_sound};
-ghost use Rattle.flow_laws.specs.Reads.{history_of, has_end};
+ghost use Rattle.history_laws.specs.Reads.{history_of, has_end};
 ghost use Rattle.kernel_model.specs.Known.{has_ended};
 ghost use Rattle.kernel_model.specs.Evaluated.{evaluated};
 ghost use Rattle.kernel_core.specs.Views.{Opens, IsNew};
@@ -29,7 +29,7 @@ pub struct Opening {
 
 /// What main did, with the numbers of calls from 0.
 #[derive(Drop)]
-pub enum Act {
+pub enum MainStep {
     Call(usize),
     Wait(usize),
     Print(Value),
@@ -48,7 +48,7 @@ pub struct Kernel<M: Monitor> {
     pub(crate) tasks: Vec<Task>,
     // How many attempts run: the log has room for their ends.
     pub(crate) running: usize,
-    pub(crate) acts: Vec<Act>,
+    pub(crate) acts: Vec<MainStep>,
     pub(crate) log: Vec<Entry>,
     pub(crate) refused: bool,
     pub(crate) monitors: Vec<M>,

@@ -4,14 +4,14 @@ ghost use Rattle.std.specs.Prelude.{◌≡◌, [], IfOk};
 
 use dependency_graph::{Monitor, Settlement};
 use flow_base::{FileOut, Files, Outcome};
-use sqlite_items::Items;
+use sqlite_items::Items as ListOf;
 use std::alloc::{AllocError, Global};
 
 /// A monitor that keeps the settlements that it is told of.
 #[derive(Drop)]
 pub struct Ledger {
     alloc: Global,
-    settlements: Items<Settlement>,
+    settlements: ListOf<Settlement>,
 }
 
 impl Ledger {
@@ -21,7 +21,7 @@ impl Ledger {
     {
         Ledger {
             alloc,
-            settlements: Items::new(alloc),
+            settlements: ListOf::new(alloc),
         }
     }
 
@@ -39,6 +39,7 @@ impl Monitor for Ledger {
     fn settled(&mut self, settlement: &Settlement) -> Result<(), AllocError> {
         let settlement = Settlement {
             path: settlement.path.copy(self.alloc)?,
+            status: settlement.status,
             outcome: copy_outcome(self.alloc, &settlement.outcome)?,
         };
         self.settlements.push(settlement)

@@ -2,10 +2,10 @@
 #![tactic(auto)]
 
 mod acts;
-pub mod any_turns;
-pub mod job;
-pub mod kernel;
-pub mod ledger;
+mod any_turns;
+mod job;
+mod kernel;
+mod ledger;
 mod parts;
 mod reading;
 mod task;

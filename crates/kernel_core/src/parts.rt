@@ -2,14 +2,14 @@
 
 ghost use Rattle.std.specs.Prelude.{◌≡◌, map, IfOk};
 ghost use Rattle.script_tree.specs.Small.{app_of};
-ghost use Rattle.flow_laws.specs.Reads.{history_of};
+ghost use Rattle.history_laws.specs.Reads.{history_of};
 ghost use Rattle.kernel_model.specs.Known.{printed_in};
 ghost use Rattle.kernel_model.specs.Evaluated.{evaluated, main_ending};
 ghost use Rattle.kernel_core.specs.Tasks.{act_of};
 ghost use Rattle.kernel_core.specs.Parts.{parts_of, end_of as the_end, ends_in};
 
 use crate::acts::app_name;
-use crate::kernel::{Act, Kernel};
+use crate::kernel::{Kernel, MainStep};
 use crate::task::Task;
 use dependency_graph::Monitor;
 use event_log::Entries;
@@ -44,7 +44,7 @@ fn evaluation_of(
     alloc: Global,
     apps: &[SmallApp],
     tasks: Vec<Task>,
-    acts: Vec<Act>,
+    acts: Vec<MainStep>,
     raised: Option<Exception>,
 ) -> Result<Evaluation, AllocError>
     ensures { IfOk result (λ evaluation. evaluation ≡ parts_of (map app_of apps.now) tasks.items acts.items raised) }
@@ -56,12 +56,12 @@ fn evaluation_of(
     })
 }
 
-fn printed_values(alloc: Global, acts: Vec<Act>) -> Result<Items, AllocError>
+fn printed_values(alloc: Global, acts: Vec<MainStep>) -> Result<Items, AllocError>
     ensures { IfOk result (λ values. values ≡ printed_in (map act_of acts.items)) }
 {
     let mut values = Items::new(alloc);
     for act in acts {
-        if let Act::Print(value) = act {
+        if let MainStep::Print(value) = act {
             values.push(value)?;
         }
     }

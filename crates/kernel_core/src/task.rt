@@ -3,7 +3,7 @@
 ghost use Rattle.std.specs.Prelude.{◌≡◌};
 ghost use Rattle.std.specs.Option.{option_copied};
 ghost use Rattle.flow_base.specs.declared.outcome.Outcome.TheVariants as o;
-ghost use Rattle.flow_laws.specs.Tables.{status_of as state_of};
+ghost use Rattle.history_laws.specs.Tables.{status_of as state_of};
 ghost use Rattle.kernel_model.specs.Known.{outcome_in};
 ghost use Rattle.kernel_core.specs.Tasks.{life_of};
 

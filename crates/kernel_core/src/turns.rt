@@ -21,7 +21,7 @@ use crate::walk::Next;
 use dependency_graph::{Monitor, Readiness, is_resolved, is_settled_all, readiness_of, resolve};
 use flow_base::{Ended, Names, Outcome, Text};
 use kernel_model::{Delivered, Refusal, ScriptTurn};
-use sqlite_items::Items;
+use sqlite_items::Items as ListOf;
 use std::alloc::{AllocError, Global};
 use task_record::Status;
 
@@ -308,7 +308,7 @@ fn outcome_of(ended: Ended) -> Outcome
 fn copy_names(alloc: Global, names: &[Text]) -> Result<Names, AllocError>
     ensures { IfOk result (λ copies. copies ≡ names.now) }
 {
-    let mut copies = Items::new(alloc);
+    let mut copies = ListOf::new(alloc);
     for name in names {
         copies.push(name.copy(alloc)?)?;
     }

@@ -29,6 +29,7 @@ pub enum Next {
 }
 
 impl<M: Monitor> Kernel<M> {
+    /// Main's next statement.
     pub(crate) fn next(&self) -> Result<Next, AllocError>
         ensures { IfOk result (λ next. next ≡ next_of self.now self.now.rest) }
     {

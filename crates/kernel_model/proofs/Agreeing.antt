@@ -24,7 +24,7 @@ use Rattle.flow_meaning.specs.Sequential.{Task, Tasks, outcome_at, failed, faile
 use Rattle.dependency_graph.specs.declared.readiness.Readiness.{Readiness}
 use Rattle.dependency_graph.specs.declared.readiness.Readiness.TheVariants as readiness
 use Rattle.dependency_graph.specs.Readiness.{ready, rest_of_rule, by_rules-ready}
-use Rattle.flow_laws.specs.Tables.{expected, is_ready, joins, kind_in, kind_of}
+use Rattle.history_laws.specs.Tables.{expected, is_ready, joins, kind_in, kind_of}
 use Rattle.small_meaning.specs.Calls.{Argument}
 use Rattle.small_meaning.specs.Calls as argument
 use Rattle.small_meaning.specs.Ints.{sum_of, ended_with, knows_parameters}

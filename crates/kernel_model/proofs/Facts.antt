@@ -16,11 +16,11 @@ use Rattle.flow_meaning.specs.Evaluations.{evaluation_in, task_end}
 use Rattle.flow_meaning.specs.Meaning.{Done}
 use Rattle.flow_meaning.specs.Operators.{Text}
 use Rattle.flow_meaning.specs.Sequential.{outcome_at, seq, sequential, ending_of, Main, Rule, perform, main_answer}
-use Rattle.flow_laws.specs.Laws.{SettlingLaw}
-use Rattle.flow_laws.specs.Reads.{History, lost, has_end}
-use Rattle.flow_laws.specs.Tables.{table}
-use Rattle.flow_laws.specs.Legal.{IsLegal, IsComplete, Holds}
-use Rattle.flow_laws.specs.declared.table.Table.{Table}
+use Rattle.history_laws.specs.Laws.{SettlingLaw}
+use Rattle.history_laws.specs.Reads.{History, lost, has_end}
+use Rattle.history_laws.specs.Tables.{table}
+use Rattle.history_laws.specs.Legal.{IsLegal, IsComplete, Holds}
+use Rattle.history_laws.specs.declared.table.Table.{Table}
 use Rattle.kernel_model.specs.Known.{Known, Call, Life, Losses, no_retries, path_of, outcome_in, settled_outcome, tasks_where, known_from, IsDone, apps_in, printed_in, rule_in, main_at, main_left, is_empty, rest_or_raised}
 use Rattle.kernel_model.specs.Invariants.{Inv}
 use Rattle.kernel_model.specs.Evaluated.{evaluated, ended_task, ends_from, main_ending}

@@ -13,14 +13,14 @@ use Rattle.script_tree.specs.declared.small.SmallStatement.{SmallStatement}
 use Rattle.script_tree.specs.Small.{app_of, tree_of}
 use Rattle.flow_meaning.specs.Inputs.{Path, inputs, path_in}
 use Rattle.flow_meaning.specs.Operators.{Text}
-use Rattle.flow_meaning.specs.Sequential.{Task, Tasks, outcome_at, Made, no_calls, Main, MainAct, Ran, Rule, rule, makes, perform, main_answer, Waits, Prints, Checkpoints, acted, waits, seq}
+use Rattle.flow_meaning.specs.Sequential.{Task, Tasks, outcome_at, Made, no_calls, Main, MainAct, Ran, Rule, rule, makes, perform, main_answer, Waits, Prints, Checkpoints, acted, waits, seq, main_room}
 use Rattle.flow_meaning.specs.declared.walk.Request.{Request}
 use Rattle.flow_meaning.specs.declared.walk.Request.TheVariants as request
 use Rattle.flow_meaning.specs.Act as walk
 use Rattle.flow_meaning.specs.Meaning.{Done}
-use Rattle.flow_laws.specs.declared.table.Expected.{Expected}
-use Rattle.flow_laws.specs.declared.table.Table.{Table}
-use Rattle.flow_laws.specs.Tables.{task_at, calls_in, waits_before, acts_of, status_of, expected, joins, table, task_in, kind_in}
+use Rattle.history_laws.specs.declared.table.Expected.{Expected}
+use Rattle.history_laws.specs.declared.table.Table.{Table}
+use Rattle.history_laws.specs.Tables.{task_at, calls_in, waits_before, acts_of, status_of, expected, joins, table, task_in, kind_in}
 use Rattle.kernel_model.specs.Known.{Known, Call, Life, no_call, no_life, path_of, call_at, outcome_in, settled_outcome, inputs_at, task_of, tasks_where, known, known_from, Losses, rule_in, filled, main_at, main_left, apps_in, is_empty, rest_or_raised}
 use Rattle.kernel_model.specs.Invariants.{AllKnown, IsBelow, AreBelow, Fits, KnowsCall, KnowsAll, Knows, Inv}
 use Rattle.kernel_model.proofs.Places.{path-same, known-at, known-only, settled-within}
@@ -274,12 +274,12 @@ below_at : (w : Known) → Inv w → (k : ℕ) → k < length w.calls → AreBel
 below_at w inv k lt = small-below w.script.apps k (call_at w k) (inv.small k lt)
 
 filled_call : (w : Known) → Inv w → (losses : Losses) → (k : ℕ) → k < length w.calls → Filled (rule_in losses w) w.calls k
-filled_call w inv losses k lt = call_filled (rule_in losses w) (rule-agrees (apps_in w) losses 63) w.calls (small_plain w inv losses 63) k lt (below_at w inv k lt)
+filled_call w inv losses k lt = call_filled (rule_in losses w) (rule-agrees (apps_in w) losses main_room) w.calls (small_plain w inv losses main_room) k lt (below_at w inv k lt)
 
 -- a settled task has its outcome in each evaluation whose losses the settled tasks fit
 pub fits-filled : (w : Known) → Inv w → (losses : Losses) → Fits losses w → (k : ℕ) (outcome : Outcome) → settled_outcome w k ≡ Some outcome → outcome_at (main_at losses w).made.tasks (path_of k) ≡ Some outcome
 fits-filled w inv losses fits k outcome h =
-    fits_below (rule_in losses w) (rule-agrees (apps_in w) losses 63) w inv.lives (small_plain w inv losses 63) (below_at w inv)
+    fits_below (rule_in losses w) (rule-agrees (apps_in w) losses main_room) w inv.lives (small_plain w inv losses main_room) (below_at w inv)
     (λ i settled e. ((fits i settled e).inputs, (fits i settled e).by_rule)) (suc k) k outcome (omega arith) h
 
 -- where each call has settled, with the outcome of its task, the tasks are those that are known
@@ -310,7 +310,7 @@ filled_known r (c ∷ cs) (life ∷ lives) m made plain same has =
 -- where all is settled, the tasks of each such evaluation are those that are known
 pub done-filled : (w : Known) → Inv w → (losses : Losses) → Fits losses w → ((k : ℕ) → k < length w.calls → IsSome (settled_outcome w k)) → (main_at losses w).made.tasks ≡ known w
 done-filled w inv losses fits all =
-    filled_known (rule_in losses w) w.calls w.lives no_calls none_made (small_plain w inv losses 63) inv.lives
+    filled_known (rule_in losses w) w.calls w.lives no_calls none_made (small_plain w inv losses main_room) inv.lives
     (λ j lt. subst (λ (n : ℕ). outcome_at tasks (path_of n) ≡ settled_outcome w j) (sym (zero-add j)) (by_outcome j (settled_outcome w j) refl (all j lt)))
   where
     tasks : Tasks
@@ -427,7 +427,7 @@ knows_all w inv losses = record { count = inv.called; below = no_others }
     old = (main_at losses w).made.tasks
 
     made : IsMade (main_at losses w).made
-    made = filled_made (rule_in losses w) w.calls no_calls none_made (small_plain w inv losses 63)
+    made = filled_made (rule_in losses w) w.calls no_calls none_made (small_plain w inv losses main_room)
 
     by_found : (p : Path) (f : Option Task) → found old p ≡ f → IsSome (option_map (expected (apps_in w) old) f) → IsBelow (length w.calls) p
     by_found p None e h = absurd (cc)

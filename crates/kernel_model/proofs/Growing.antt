@@ -6,10 +6,10 @@ use Rattle.script_tree.specs.declared.small.SmallScript.{SmallScript}
 use Rattle.script_tree.specs.Small.{tree_of}
 use Rattle.flow_meaning.specs.Inputs.{Path, inputs}
 use Rattle.flow_meaning.specs.Evaluations.{name_in}
-use Rattle.flow_meaning.specs.Sequential.{outcome_at, Ran, rule}
-use Rattle.flow_laws.specs.declared.table.Expected.{Expected}
-use Rattle.flow_laws.specs.declared.table.Table.{Table}
-use Rattle.flow_laws.specs.Tables.{expected}
+use Rattle.flow_meaning.specs.Sequential.{outcome_at, Ran, rule, main_room}
+use Rattle.history_laws.specs.declared.table.Expected.{Expected}
+use Rattle.history_laws.specs.declared.table.Table.{Table}
+use Rattle.history_laws.specs.Tables.{expected}
 use Rattle.kernel_model.specs.Known.{Known, Call, path_of, call_at, settled_outcome, inputs_at, task_of, known, Losses, apps_in}
 use Rattle.kernel_model.specs.Invariants.{AllKnown, IsBelow, Fits, expected_at, KnowsCall, Knows, Inv, Grows}
 use Rattle.kernel_model.proofs.Agreeing.{Agree, agree-known, known-agree, rule-agrees, expected-agrees}
@@ -34,9 +34,9 @@ fits-back w v inv same_v grows losses fits k outcome h =
     let agree = grows-agree w v inv.lives same_v grows (inputs_at w k) known_inputs in
     let c = call_at w k in
     let later = (fits k outcome (grows.outcome k outcome h)).by_rule in
-    let by_call = ap (λ (d : Call). (rule (apps_in v) losses 63 (path_of k) d.app d.arguments d.names (known v)).outcome) (grows.call k within) in
-    let by_script = ap (λ (script : SmallScript). (rule (tree_of script).0 losses 63 (path_of k) c.app c.arguments c.names (known v)).outcome) grows.script in
-    let by_tasks = ap (λ (ran : Ran). ran.outcome) (rule-agrees (apps_in w) losses 63 (path_of k) c.app c.arguments c.names (known w) (known v) agree) in
+    let by_call = ap (λ (d : Call). (rule (apps_in v) losses main_room (path_of k) d.app d.arguments d.names (known v)).outcome) (grows.call k within) in
+    let by_script = ap (λ (script : SmallScript). (rule (tree_of script).0 losses main_room (path_of k) c.app c.arguments c.names (known v)).outcome) grows.script in
+    let by_tasks = ap (λ (ran : Ran). ran.outcome) (rule-agrees (apps_in w) losses main_room (path_of k) c.app c.arguments c.names (known w) (known v) agree) in
     record { inputs = known_inputs; by_rule = later ∙ (by_call ∙ (by_script ∙ sym by_tasks)) }
 
 -- a task is expected as before, once its inputs are known

@@ -1,5 +1,5 @@
 -- Each act of main keeps what a kernel keeps.
-use Rattle.std.proofs.Common.{◌≡◌, ◌≢◌, ℕ, zero, suc, ◌+◌, ◌<◌, Bool, true, false, List, [], ◌∷◌, ◌++◌, length, map, Option, Some, None, IsSome, get_or, refl, sym, ◌∙◌, ap, subst, arith, bytes_eq, length-append, append-nil, zero-add, inl, inr}
+use Rattle.std.proofs.Common.{◌≡◌, ◌≢◌, ℕ, zero, suc, ◌+◌, ◌<◌, ◌≤◌, Bool, true, false, List, [], ◌∷◌, ◌++◌, length, map, Option, Some, None, IsSome, get_or, refl, sym, ◌∙◌, ap, subst, arith, bytes_eq, length-append, append-nil, zero-add, inl, inr}
 use Rattle.std.specs.Prelude.{slice_get, ◌^◌, Result, if◌then◌else◌}
 use Rattle.std.specs.List.{list_all}
 use Rattle.std.proofs.lemmas.Bool.{cases_eq, or_parts}
@@ -29,12 +29,12 @@ use Rattle.flow_meaning.specs.Inputs.{Path, path_in}
 use Rattle.flow_meaning.specs.Meaning.{Done}
 use Rattle.flow_meaning.specs.Evaluations.{name_in}
 use Rattle.flow_meaning.specs.Operators.{Text}
-use Rattle.flow_meaning.specs.Sequential.{outcome_of, Made, no_calls, Main, MainAct, Calls, Waits, Prints, Rule, rule, makes, perform, main_answer, main_ran, at_start, waits, acted, outcome_answer}
-use Rattle.flow_laws.specs.declared.table.Act.{Act}
-use Rattle.flow_laws.specs.declared.table.Act.TheVariants as act
-use Rattle.flow_laws.specs.Reads.{History, is_submitted, settled, has_end, lost}
-use Rattle.flow_laws.specs.Tables.{calls_in, waits_before, acts_of}
-use Rattle.flow_laws.specs.Laws.{AllSettled}
+use Rattle.flow_meaning.specs.Sequential.{outcome_of, Made, no_calls, Main, MainAct, Calls, Waits, Prints, Rule, rule, makes, perform, main_answer, main_ran, at_start, waits, acted, outcome_answer, main_room}
+use Rattle.history_laws.specs.declared.table.MainEvent.{MainEvent}
+use Rattle.history_laws.specs.declared.table.MainEvent.TheVariants as act
+use Rattle.history_laws.specs.Reads.{History, is_submitted, settled, has_end, lost}
+use Rattle.history_laws.specs.Tables.{calls_in, waits_before, acts_of}
+use Rattle.history_laws.specs.Laws.{AllSettled}
 use Rattle.small_meaning.specs.Ints.{knows_parameters}
 use Rattle.small_meaning.specs.Plan.{is_sound, is_sound_main, place_of, argument_in}
 use Rattle.small_meaning.specs.Steps.{future_at, small_rest}
@@ -42,7 +42,7 @@ use Rattle.small_meaning.proofs.Sums.{and-true}
 use Rattle.small_meaning.proofs.Runs.{arguments-within, length-operands}
 use Rattle.small_meaning.proofs.Whole.{sound-call, sound-print}
 use Rattle.small_meaning.proofs.Steps.{asks-call, asks-result, main-starts}
-use Rattle.kernel_model.specs.Known.{Known, Call, Life, no_call, no_life, no_retries, path_of, call_at, life_at, status_at, outcome_in, settled_outcome, inputs_at, known, end_at, Losses, rule_in, filled, main_at, main_left, is_main_over, has_ended, apps_in, printed_in}
+use Rattle.kernel_model.specs.Known.{Known, Call, Life, no_call, no_life, no_retries, path_of, call_at, life_at, status_at, outcome_in, settled_outcome, inputs_at, known, end_at, Losses, rule_in, filled, main_at, main_left, is_main_over, IsDone, has_ended, apps_in, printed_in}
 use Rattle.kernel_model.specs.Invariants.{AllValues, IsSmallCall, IsLife, HasRun, FitsAt, Fits, WaitsSettled, Inv, Grows}
 use Rattle.dependency_graph.specs.declared.monitor.Settlement.{Settlement}
 use Rattle.kernel_model.specs.Acts.{pending, call_of, started_with, submitted, printed, raised_by, over, refused}
@@ -55,9 +55,9 @@ use Rattle.kernel_model.proofs.Growing.{fits-back, knows-back}
 -- ---- the start
 
 -- main is what is left of it
-starts-with : (script : SmallScript) (losses : Losses) → main_ran (tree_of script).0 (tree_of script).1 losses ≡ perform (main_answer (rule (tree_of script).0 losses 63)) (small_rest script script.main []) at_start
+starts-with : (script : SmallScript) (losses : Losses) → main_ran (tree_of script).0 (tree_of script).1 losses ≡ perform (main_answer (rule (tree_of script).0 losses main_room)) (small_rest script script.main []) at_start
 unfolding main_ran
-starts-with script losses = ap (λ (left : flow.Act Done). perform (main_answer (rule (tree_of script).0 losses 63)) left at_start) (main-starts script)
+starts-with script losses = ap (λ (left : flow.Act Done). perform (main_answer (rule (tree_of script).0 losses main_room)) left at_start) (main-starts script)
 
 pub keep-start : (script : SmallScript) (told : List (List Settlement)) → is_sound script ≡ true → length script.main < 2 ^ 32 → Inv (started_with script told)
 keep-start script told sound few = record {
@@ -262,6 +262,47 @@ keep-submitted w variable app arguments rest inv can =
       ends = λ h. absurd (cc);
     }
 
+-- ---- acts that leave the tasks and the history
+
+-- what such an act has to show
+record LeavesTasks (w v : Known) : Type 0 where
+  grows : Grows w v
+  bound : length w.calls + length v.rest ≤ length w.script.main
+  mains : is_sound_main w.script.apps w.variables v.rest ≡ true
+  called : calls_in (acts_of v.acts) ≡ length w.calls
+  waits : WaitsSettled (acts_of v.acts) w.past
+  goes_on : (losses : Losses) → Fits losses w → perform (main_answer (rule_in losses w)) (main_left w) (main_at losses w) ≡ perform (main_answer (rule_in losses w)) (main_left v) (main_at losses v)
+  ends : has_end w.past ≡ true → IsDone v
+
+abbrev leaving : Known → List SmallStatement → Option Exception → List MainAct → Bool → Known
+leaving w rest raised acts flag = record w { rest = rest; raised = raised; acts = acts; refused = flag }
+
+keep-leaving : (w : Known) (rest : List SmallStatement) (raised : Option Exception) (acts : List MainAct) (flag : Bool) → Inv w → LeavesTasks w (leaving w rest raised acts flag) → Inv (leaving w rest raised acts flag)
+keep-leaving w rest raised acts flag inv step =
+    let v : Known = leaving w rest raised acts flag in
+    record {
+      sound = inv.sound;
+      few = inv.few;
+      bound = step.bound;
+      mains = step.mains;
+      variables = inv.variables;
+      lives = inv.lives;
+      count = inv.count;
+      there = inv.there;
+      tracks = inv.tracks;
+      begun = inv.begun;
+      small = inv.small;
+      ints = inv.ints;
+      ready = inv.ready;
+      ended = inv.ended;
+      called = step.called;
+      waits = step.waits;
+      fits = λ j outcome h. fits-same (lost w.past) w v j outcome refl refl refl (inv.fits j outcome h);
+      goes_on = λ losses h. let before = fits-back w v inv inv.lives step.grows losses h in inv.goes_on losses before ∙ step.goes_on losses before;
+      legal = λ z h. inv.legal z (knows-back w v inv inv.lives step.grows z h);
+      ends = step.ends;
+    }
+
 -- ---- a result
 
 -- a wait and what follows it make no calls
@@ -277,7 +318,7 @@ shown-waited acts p = printed-append acts (Waits p ∷ []) ∙ append-nil (print
 shown-printed : (acts : List MainAct) (p : Path) (value : Value) → printed_in ((acts ++ Waits p ∷ []) ++ Prints value ∷ []) ≡ printed_in acts ++ value ∷ []
 shown-printed acts p value = printed-append (acts ++ Waits p ∷ []) (Prints value ∷ []) ∙ ap (λ (values : List Value). values ++ value ∷ []) (shown-waited acts p)
 
-called-waited : (acts : List Act) (p : Path) → calls_in (acts ++ act.Wait p ∷ []) ≡ calls_in acts
+called-waited : (acts : List MainEvent) (p : Path) → calls_in (acts ++ act.Wait p ∷ []) ≡ calls_in acts
 called-waited acts p = let both = calls-append acts (act.Wait p ∷ []) in omega arith
 
 -- a task with an outcome has settled
@@ -328,35 +369,20 @@ keep-printed w variable rest value files inv can =
     let after : prints.go answer.Go ≡ main_left v = prints.goes ∙ rw can.going refl in
     let left = left-is w (small.Print variable ∷ rest) can.going can.next in
     let open_yet = open-yet w can.not_ended in
-    record {
-      sound = inv.sound;
-      few = inv.few;
+    keep-leaving w rest w.raised v.acts w.refused inv (record {
+      grows = grows;
       bound = let bound = inv.bound in let left : length w.rest ≡ suc (length rest) = ap length can.next in omega arith;
       mains = facts.rest;
-      variables = inv.variables;
-      lives = inv.lives;
-      count = inv.count;
-      there = inv.there;
-      tracks = inv.tracks;
-      begun = inv.begun;
-      small = inv.small;
-      ints = inv.ints;
-      ready = inv.ready;
-      ended = inv.ended;
       called = rw acts (called-waited (acts_of w.acts) p ∙ inv.called);
       waits = rw acts (waited-settled w k (o.Value value files) inv can.has);
-      fits = λ j outcome h. fits-same (lost w.past) w v j outcome refl refl refl (inv.fits j outcome h);
-      goes_on = λ losses h.
-          let before = fits-back w v inv inv.lives grows losses h in
+      goes_on = λ losses before.
           let used : Rule = rule_in losses w in
-          inv.goes_on losses before
-          ∙ goes-wait w variable (o.Value value files) losses inv before can.has asks.go (left ∙ asks.is)
+          goes-wait w variable (o.Value value files) losses inv before can.has asks.go (left ∙ asks.is)
           ∙ ap (λ (further : flow.Act Done). perform (main_answer used) further (acted (main_at losses w) (Waits p))) prints.is
           ∙ ap (λ (further : flow.Act Done). perform (main_answer used) further (record { made = (main_at losses w).made; acts = v.acts; printed = printed_in w.acts ++ value ∷ [] })) after
           ∙ ap (λ (values : List Value). perform (main_answer used) (main_left v) (record { made = (main_at losses w).made; acts = v.acts; printed = values })) (sym (shown-printed w.acts p value));
-      legal = λ z h. inv.legal z (knows-back w v inv inv.lives grows z h);
       ends = λ h. absurd (cc);
-    }
+    })
 
 pub keep-raised : (w : Known) (variable : Text) (rest : List SmallStatement) (exception : Exception) → Inv w → CanRaise w variable rest exception → Inv (raised_by w (place_of w.variables variable) exception)
 keep-raised w variable rest exception inv can =
@@ -376,34 +402,19 @@ keep-raised w variable rest exception inv can =
     let asks = asks-result w.script w.variables variable rest sound in
     let left = left-is w (small.Print variable ∷ rest) can.going can.next in
     let open_yet = open-yet w can.not_ended in
-    record {
-      sound = inv.sound;
-      few = inv.few;
+    keep-leaving w w.rest (Some exception) v.acts w.refused inv (record {
+      grows = grows;
       bound = inv.bound;
       mains = inv.mains;
-      variables = inv.variables;
-      lives = inv.lives;
-      count = inv.count;
-      there = inv.there;
-      tracks = inv.tracks;
-      begun = inv.begun;
-      small = inv.small;
-      ints = inv.ints;
-      ready = inv.ready;
-      ended = inv.ended;
       called = rw acts (called-waited (acts_of w.acts) p ∙ inv.called);
       waits = rw acts (waited-settled w k (o.Failed exception) inv can.has);
-      fits = λ j outcome h. fits-same (lost w.past) w v j outcome refl refl refl (inv.fits j outcome h);
-      goes_on = λ losses h.
-          let before = fits-back w v inv inv.lives grows losses h in
+      goes_on = λ losses before.
           let used : Rule = rule_in losses w in
-          inv.goes_on losses before
-          ∙ goes-wait w variable (o.Failed exception) losses inv before can.has asks.go (left ∙ asks.is)
+          goes-wait w variable (o.Failed exception) losses inv before can.has asks.go (left ∙ asks.is)
           ∙ ap (λ (further : flow.Act Done). perform (main_answer used) further (acted (main_at losses w) (Waits p))) (asks.throws exception)
           ∙ ap (λ (values : List Value). perform (main_answer used) (main_left v) (record { made = (main_at losses w).made; acts = v.acts; printed = values })) (sym (shown-waited w.acts p));
-      legal = λ z h. inv.legal z (knows-back w v inv inv.lives grows z h);
       ends = λ h. absurd (cc);
-    }
+    })
 
 -- ---- the end
 
@@ -466,26 +477,12 @@ refused-grows w = record { script = refl; outcome = λ k outcome h. h; calls = o
 
 pub keep-refused : (w : Known) → Inv w → Inv (refused w)
 keep-refused w inv =
-    let grows = refused-grows w in
-    record {
-      sound = inv.sound;
-      few = inv.few;
+    keep-leaving w w.rest w.raised w.acts true inv (record {
+      grows = refused-grows w;
       bound = inv.bound;
       mains = inv.mains;
-      variables = inv.variables;
-      lives = inv.lives;
-      count = inv.count;
-      there = inv.there;
-      tracks = inv.tracks;
-      begun = inv.begun;
-      small = inv.small;
-      ints = inv.ints;
-      ready = inv.ready;
-      ended = inv.ended;
       called = inv.called;
       waits = inv.waits;
-      fits = λ k outcome h. fits-same (lost w.past) w (refused w) k outcome refl refl refl (inv.fits k outcome h);
-      goes_on = λ losses h. inv.goes_on losses (fits-back w (refused w) inv inv.lives grows losses h);
-      legal = λ z h. inv.legal z (knows-back w (refused w) inv inv.lives grows z h);
+      goes_on = λ losses before. refl;
       ends = λ h. let done = inv.ends h in record { over = done.over; settled = done.settled };
-    }
+    })

@@ -1,5 +1,5 @@
 -- Each act on a task keeps what a kernel keeps.
-use Rattle.std.proofs.Common.{◌≡◌, ◌≢◌, ℕ, ◌+◌, ◌<◌, Bool, true, false, ◌||◌, if◌then◌else◌, List, ◌∷◌, length, map, Option, Some, None, refl, sym, ◌∙◌, ap, subst, arith, length-set, inl, inr}
+use Rattle.std.proofs.Common.{◌≡◌, ◌≢◌, ℕ, ◌+◌, ◌<◌, true, false, ◌||◌, if◌then◌else◌, List, ◌∷◌, length, map, Option, Some, None, refl, sym, ◌∙◌, ap, subst, arith, length-set, inl, inr}
 use Rattle.std.specs.Prelude.{slice_get}
 use Rattle.flow_base.specs.declared.value.Value.{Value}
 use Rattle.flow_base.specs.declared.outcome.FileOut.{FileOut}
@@ -16,19 +16,19 @@ use Rattle.task_record.specs.declared.status.Status.TheVariants as status
 use Rattle.event_log.specs.declared.entry.Entry.{Entry}
 use Rattle.event_log.specs.declared.entry.Entry.TheVariants as entry
 use Rattle.flow_meaning.specs.Inputs.{Path, inputs}
-use Rattle.flow_meaning.specs.Sequential.{Tasks, outcome_at, resolved, apply, outcome_of}
-use Rattle.flow_laws.specs.declared.table.Table.{Table}
-use Rattle.flow_laws.specs.Reads.{History, Stage, Unlaunched, Waiting, Running, Over, stage, last_try, cost, costs, has_end, lost}
-use Rattle.flow_laws.specs.Tables.{task_at, acts_of, status_of, kind_of, kind_in, joins}
-use Rattle.flow_laws.specs.Laws.{SettlingStands, LaunchLaw, AttemptLaw, ManagerLaw, MayFollow, MaySettle, IsOut, AttemptsSettle}
+use Rattle.flow_meaning.specs.Sequential.{Tasks, outcome_at, resolved, apply, outcome_of, main_room}
+use Rattle.history_laws.specs.declared.table.Table.{Table}
+use Rattle.history_laws.specs.Reads.{History, Stage, Over, cost, costs, has_end, lost}
+use Rattle.history_laws.specs.Tables.{task_at, acts_of, status_of, kind_of, kind_in, joins}
+use Rattle.history_laws.specs.Laws.{SettlingStands, LaunchLaw, AttemptLaw, ManagerLaw, MayFollow, MaySettle, IsOut, AttemptsSettle}
 use Rattle.kernel_model.specs.Known.{Known, Call, Life, no_retries, path_of, call_at, life_at, status_at, outcome_in, settled_outcome, inputs_at, task_of, known, end_in, end_at, word_of, Losses, has_ended, apps_in}
-use Rattle.kernel_model.specs.Invariants.{AllValues, IsInt, IsLife, HasRun, FitsAt, Knows, Inv, Grows, IsReached, stage_with, try_with, last_cost}
+use Rattle.kernel_model.specs.Invariants.{AllValues, IsInt, IsLife, IsOpen, HasRun, FitsAt, Knows, Inv, Grows, IsReached}
 use Rattle.kernel_model.specs.Acts.{put, launched, started, finished, settled_as}
 use Rattle.kernel_model.specs.Conditions.{CanLaunch, CanStart, CanFinish, CanFail, CanSettle}
-use Rattle.std.proofs.lemmas.Bool.{cases_eq}
+use Rattle.std.proofs.lemmas.Bool.{cases_eq, or_parts}
 use Rattle.task_record.specs.States.{is_settled}
 use Rattle.small_meaning.proofs.Sums.{and-true}
-use Rattle.kernel_model.proofs.Places.{path-same, life-same, life-other, known-at, known-only, status-within, known-settled, values-valued, values-known}
+use Rattle.kernel_model.proofs.Places.{path-same, life-same, life-other, known-at, known-only, status-within, known-settled, values-valued, values-known, by-state}
 use Rattle.kernel_model.proofs.Reading.{IsOfTask, other-life, task-submits, task-submitted, task-ends, waits-stay}
 use Rattle.kernel_model.proofs.Agreeing.{agree-known, agree-values, rule-agrees, end-agrees, rule-settles, rule-runs, runs-values, runs-ready, settles-unready, small-plain, AreInts, small-ready, IsSmallEnd, small-end}
 use Rattle.kernel_model.proofs.Growing.{grows-agree, fits-back, knows-back}
@@ -64,10 +64,6 @@ life-cases w k j life e P within here other =
       | inr ne ↦ rw (life-other w k j life e ne) (other ne)
     ]
 
-past-open : (refused ended : Bool) → (refused || ended) ≡ false → ended ≡ false
-past-open true ended h = absurd (cc)
-past-open false ended h = h
-
 put-grows : (w : Known) (k : ℕ) (life : Life) (e : Entry) → k < length w.lives → ((outcome : Outcome) → settled_outcome w k ≡ Some outcome → outcome_in life ≡ Some outcome) → Grows w (put w k life e)
 put-grows w k life e within kept = record {
   script = refl;
@@ -92,7 +88,7 @@ fits-put w k j life e inv m grows losses outcome h =
     let agree = grows-agree w v inv.lives m grows (inputs_at w j) h.inputs in
     record {
       inputs = agree-known (known w) (known v) (inputs_at w j) agree h.inputs;
-      by_rule = h.by_rule ∙ ap (λ r. r.outcome) (rule-agrees (apps_in w) losses 63 (path_of j) c.app c.arguments c.names (known w) (known v) agree);
+      by_rule = h.by_rule ∙ ap (λ r. r.outcome) (rule-agrees (apps_in w) losses main_room (path_of j) c.app c.arguments c.names (known w) (known v) agree);
     }
 
 keep-put : (w : Known) (k : ℕ) (life : Life) (e : Entry) → Inv w → TaskStep w k life e → Inv (put w k life e)
@@ -103,7 +99,7 @@ keep-put w k life e inv step =
     let v = put w k life e in
     let m : length v.lives ≡ length v.calls = length-set w.lives k life ∙ inv.lives in
     let grows = put-grows w k life e within step.kept in
-    let not_ended = past-open w.refused (has_end w.past) step.not_ended in
+    let not_ended = (or_parts w.refused (has_end w.past) step.not_ended).1 in
     record {
       sound = inv.sound;
       few = inv.few;
@@ -147,7 +143,7 @@ keep-put w k life e inv step =
 any_outcome : Outcome
 any_outcome = o.Failed x.TypeError
 
-apps-are : (w : Known) → apps_in w ≡ map app_of w.script.apps
+pub apps-are : (w : Known) → apps_in w ≡ map app_of w.script.apps
 unfolding tree_of
 apps-are w = refl
 
@@ -157,15 +153,17 @@ plain w k inv within = rw (apps-are w) (small-plain w.script.apps k (call_at w k
 none-at : (w : Known) (k : ℕ) (outcome : Outcome) → is_settled (status_at w k) ≡ false → settled_outcome w k ≡ Some outcome → ⊥
 none-at w k outcome unsettled h = absurd (let none = rw unsettled at h in cc)
 
+-- a task without an outcome is what the history says of it, by its state
+open-as : (w : Known) (k : ℕ) (state : Status) → Inv w → status_at w k ≡ state → is_settled state ≡ false → IsOpen no_retries (path_of k) w.past (record (life_at w k) { status = state })
+open-as w k state inv is unsettled =
+    subst (λ (s : Status). IsOpen no_retries (path_of k) w.past (record (life_at w k) { status = s })) is ((inv.tracks k).opened (ap is_settled is ∙ unsettled))
+
 pub keep-launched : (w : Known) (k : ℕ) → Inv w → CanLaunch w k → Inv (launched w k)
 keep-launched w k inv can =
     let is = can.callback.pending in
-    let life = life_at w k in
     let within = status-within w k inv.lives (λ h. absurd (cc)) in
     let unsettled : is_settled (status_at w k) ≡ false = ap is_settled is in
-    let before = (inv.tracks k).opened unsettled in
-    let last : Unlaunched ≡ last_try (path_of k) w.past = ap (λ (s : Status). try_with s life.end) (sym is) ∙ before.last in
-    let sum : life.cost + 0 ≡ costs no_retries (path_of k) w.past = ap (λ (s : Status). life.cost + last_cost no_retries s life.end) (sym is) ∙ before.costs in
+    let before = open-as w k status.Pending inv is refl in
     let own = path-same k in
     let values = runs-values (known w) (call_at w k).arguments can.values can.callback.inputs can.runs in
     keep-put w k _ _ inv (record {
@@ -176,7 +174,7 @@ keep-launched w k inv can =
       is_life = record {
         reached = tt;
         first = λ h. absurd (cc);
-        opened = λ h. record { attempts = rw own (ap (λ (n : ℕ). n + 1) before.attempts); costs = sum; stage = rw own refl; last = rw own refl; unsettled = before.unsettled };
+        opened = λ h. record { attempts = rw own (ap (λ (n : ℕ). n + 1) before.attempts); costs = before.costs; stage = rw own refl; last = rw own refl; unsettled = before.unsettled };
         closed = λ h. absurd (cc);
       };
       begun = λ h. absurd (cc);
@@ -198,7 +196,7 @@ keep-launched w k inv can =
             };
             attempts = record {
               number = ap (λ (n : ℕ). n + 1) before.attempts;
-              follows = subst (λ (s : Stage). MayFollow no_retries.limit (costs no_retries (path_of k) w.past) s) last tt;
+              follows = subst (λ (s : Stage). MayFollow no_retries.limit (costs no_retries (path_of k) w.past) s) before.last tt;
             };
             managers = tt;
           };
@@ -207,13 +205,9 @@ keep-launched w k inv can =
 pub keep-started : (w : Known) (k : ℕ) → Inv w → CanStart w k → Inv (started w k)
 keep-started w k inv can =
     let is = can.waiting in
-    let life = life_at w k in
     let within = status-within w k inv.lives (λ h. absurd (cc)) in
     let unsettled : is_settled (status_at w k) ≡ false = ap is_settled is in
-    let before = (inv.tracks k).opened unsettled in
-    let stands : Waiting ≡ stage (path_of k) w.past = ap (λ (s : Status). stage_with s life.end) (sym is) ∙ before.stage in
-    let last : Waiting ≡ last_try (path_of k) w.past = ap (λ (s : Status). try_with s life.end) (sym is) ∙ before.last in
-    let sum : life.cost + 0 ≡ costs no_retries (path_of k) w.past = ap (λ (s : Status). life.cost + last_cost no_retries s life.end) (sym is) ∙ before.costs in
+    let before = open-as w k status.Launched inv is refl in
     let own = path-same k in
     keep-put w k _ _ inv (record {
       not_ended = can.not_ended;
@@ -223,7 +217,7 @@ keep-started w k inv can =
       is_life = record {
         reached = tt;
         first = λ h. absurd (cc);
-        opened = λ h. record { attempts = before.attempts; costs = sum; stage = rw own refl; last = last; unsettled = before.unsettled };
+        opened = λ h. record { attempts = before.attempts; costs = before.costs; stage = rw own refl; last = before.last; unsettled = before.unsettled };
         closed = λ h. absurd (cc);
       };
       begun = λ h. absurd (cc);
@@ -235,7 +229,7 @@ keep-started w k inv can =
         settling = tt;
         launching = tt;
         attempts = tt;
-        managers = record { stands = sym stands; number = before.attempts; first = refl };
+        managers = record { stands = sym before.stage; number = before.attempts; first = refl };
       };
     })
 
@@ -254,10 +248,8 @@ keep-finished w k outcome inv can =
     let life = life_at w k in
     let within = status-within w k inv.lives (λ h. absurd (cc)) in
     let unsettled : is_settled (status_at w k) ≡ false = ap is_settled is in
-    let before = (inv.tracks k).opened unsettled in
-    let stands : Running ≡ stage (path_of k) w.past = ap (λ (s : Status). stage_with s life.end) (sym is) ∙ before.stage in
-    let last : Waiting ≡ last_try (path_of k) w.past = ap (λ (s : Status). try_with s life.end) (sym is) ∙ before.last in
-    let sum : life.cost + 0 ≡ costs no_retries (path_of k) w.past = ap (λ (s : Status). life.cost + last_cost no_retries s life.end) (sym is) ∙ before.costs in
+    let before = open-as w k status.Running inv is refl in
+    let sum : life.cost + 0 ≡ costs no_retries (path_of k) w.past = before.costs in
     let plain_sum : life.cost ≡ costs no_retries (path_of k) w.past = omega (arith, sum) in
     let own = path-same k in
     let values = inv.ready k (subst HasRun (sym is) tt) in
@@ -285,32 +277,15 @@ keep-finished w k outcome inv can =
             attempts = record {
               task = c.task;
               is = c.is;
-              is_out = subst IsOut last tt;
+              is_out = subst IsOut before.last tt;
               number = before.attempts;
               same_kind = ap word_of can.is ∙ kind-is (slice_get (apps_in w) (call_at w k).app) (known w) k (call_at w k) any_outcome (plain w k inv within) ∙ sym (c.kind any_outcome (values-known (known w) (inputs_at w k) values));
             };
-            managers = record { stands = sym stands; number = before.attempts; first = refl };
+            managers = record { stands = sym before.stage; number = before.attempts; first = refl };
           };
     })
 
 -- ---- settling
-
--- the states of settled tasks
-by-state : (P : Status → Type 0) → P status.ExecDone → P status.DepFail → P status.Failed → (outcome : Outcome) → P (status_of outcome)
-by-state P done dependency failed (o.Value value files) = done
-by-state P done dependency failed (o.Failed x.ZeroDivisionError) = failed
-by-state P done dependency failed (o.Failed x.OverflowError) = failed
-by-state P done dependency failed (o.Failed x.TypeError) = failed
-by-state P done dependency failed (o.Failed x.IndexError) = failed
-by-state P done dependency failed (o.Failed x.ValueError) = failed
-by-state P done dependency failed (o.Failed x.SizeError) = failed
-by-state P done dependency failed (o.Failed x.BudgetError) = failed
-by-state P done dependency failed (o.Failed x.MissingOutputs) = failed
-by-state P done dependency failed (o.Failed (x.AppError text)) = failed
-by-state P done dependency failed (o.Failed (x.DependencyError paths)) = dependency
-by-state P done dependency failed (o.Failed (x.JoinError paths)) = failed
-by-state P done dependency failed (o.Failed x.DepthError) = failed
-by-state P done dependency failed (o.Failed (x.ManagerLost manager)) = failed
 
 keep-closed : (w : Known) (k : ℕ) (outcome : Outcome) → Inv w → has_ended w ≡ false → k < length w.calls → is_settled (status_at w k) ≡ false → ((value : Value) (files : List FileOut) → outcome ≡ o.Value value files → IsInt value files) → FitsAt (lost w.past) w k outcome → ((z : Table) → Knows w z → AttemptsSettle no_retries (task_at z (path_of k)) w.past (path_of k) (status_of outcome)) → Inv (settled_as w k outcome)
 keep-closed w k outcome inv not_ended within unsettled ints fits attempts =
@@ -362,14 +337,14 @@ keep-failed w k exception inv can =
     let within = status-within w k inv.lives (λ h. absurd (cc)) in
     keep-closed w k (o.Failed exception) inv can.not_ended within (ap is_settled is)
     (λ value files h. absurd (cc))
-    (record { inputs = can.callback.inputs; by_rule = sym (rule-settles (apps_in w) (lost w.past) 63 (path_of k) call.app call.arguments call.names (known w) exception can.settles) })
+    (record { inputs = can.callback.inputs; by_rule = sym (rule-settles (apps_in w) (lost w.past) main_room (path_of k) call.app call.arguments call.names (known w) exception can.settles) })
     (λ z knows.
     let c = knows.call k within in
     let idle : c.task.runs ≡ false = c.runs any_outcome can.callback.inputs ∙ rw (settles-unready (known w) k call any_outcome exception can.settles) refl in
     rw c.is (λ h. absurd (cc)))
 
 -- the values that are known are Ints
-known-ints : (w : Known) → Inv w → AreInts (known w)
+pub known-ints : (w : Known) → Inv w → AreInts (known w)
 known-ints w inv p value files h =
     let below = known-only w p (o.Value value files) h in
     inv.ints below.number value files (sym (known-at w below.number inv.lives) ∙ ap (outcome_at (known w)) (sym below.is) ∙ h)
@@ -403,20 +378,16 @@ keep-settled w k outcome inv can =
     let call = call_at w k in
     let within = status-within w k inv.lives (λ h. absurd (cc)) in
     let unsettled : is_settled (status_at w k) ≡ false = ap is_settled is in
-    let before = (inv.tracks k).opened unsettled in
+    let before = subst (λ (end : Option Outcome). IsOpen no_retries (path_of k) w.past (record life { status = status.RunningEnded; end = end })) ends (open-as w k status.RunningEnded inv is refl) in
     let values = inv.ready k (subst HasRun (sym is) tt) in
     let ints = known-ints w inv in
     let small = inv.small k within in
     let by_body = inv.ended k outcome is ends in
     let ready_is = small-ready w.script.apps k call (known w) small ints values in
     let small_end : IsSmallEnd (end_at w k) = rw (apps-are w) (small-end w.script.apps k call (known w) (and-true _ _ inv.sound).0 small ints values) in
-    let at_state = ap (λ (s : Status). try_with s life.end) (sym is) ∙ before.last in
-    let last : Over (word_of outcome) ≡ last_try (path_of k) w.past = ap (λ (e : Option Outcome). try_with status.RunningEnded e) (sym ends) ∙ at_state in
-    let at_cost = ap (λ (s : Status). life.cost + last_cost no_retries s life.end) (sym is) ∙ before.costs in
-    let sum : life.cost + cost no_retries (word_of outcome) ≡ costs no_retries (path_of k) w.past = ap (λ (e : Option Outcome). life.cost + last_cost no_retries status.RunningEnded e) (sym ends) ∙ at_cost in
     keep-closed w k outcome inv can.not_ended within unsettled
     (λ value files h. end-int (end_at w k) value files small_end (sym by_body ∙ h))
-    (record { inputs = values-known (known w) (inputs_at w k) values; by_rule = by_body ∙ sym (rule-runs (apps_in w) (lost w.past) 63 (path_of k) call (known w) (resolved (known w) call.arguments) ready_is (plain w k inv within)) })
+    (record { inputs = values-known (known w) (inputs_at w k) values; by_rule = by_body ∙ sym (rule-runs (apps_in w) (lost w.past) main_room (path_of k) call (known w) (resolved (known w) call.arguments) ready_is (plain w k inv within)) })
     (λ z knows.
     let c = knows.call k within in
-    rw c.is (λ h. subst (λ (s : Stage). MaySettle no_retries.limit (costs no_retries (path_of k) w.past) s (status_of outcome)) last (may-settle outcome life.cost _ sum)))
+    rw c.is (λ h. subst (λ (s : Stage). MaySettle no_retries.limit (costs no_retries (path_of k) w.past) s (status_of outcome)) before.last (may-settle outcome life.cost _ before.costs)))

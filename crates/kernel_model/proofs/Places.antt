@@ -1,14 +1,16 @@
 -- Paths, lists and the settled tasks.
 use Rattle.std.proofs.Common.{◌≡◌, ◌≢◌, ℕ, zero, suc, ◌+◌, ◌<◌, Bool, true, false, List, [], ◌∷◌, ◌++◌, length, Option, Some, None, IsSome, get_or, set, refl, sym, ◌∙◌, ap, subst, arith, bytes_eq}
+use Rattle.flow_base.specs.declared.outcome.Exception.TheVariants as x
 use Rattle.flow_base.specs.declared.outcome.Outcome.{Outcome}
 use Rattle.flow_base.specs.declared.outcome.Outcome.TheVariants as o
+use Rattle.task_record.specs.declared.status.Status.{Status}
 use Rattle.task_record.specs.declared.status.Status.TheVariants as status
 use Rattle.event_log.specs.declared.entry.Entry.{Entry}
 use Rattle.flow_meaning.specs.Inputs.{Path}
 use Rattle.flow_meaning.specs.Sequential.{Tasks, outcome_at}
-use Rattle.flow_laws.specs.Reads.{settled}
-use Rattle.flow_laws.specs.Tables.{status_of}
-use Rattle.flow_laws.specs.Laws.{AllSettled, IsValued, AllValued}
+use Rattle.history_laws.specs.Reads.{settled}
+use Rattle.history_laws.specs.Tables.{status_of}
+use Rattle.history_laws.specs.Laws.{AllSettled, IsValued, AllValued}
 use Rattle.kernel_model.specs.Known.{Known, Call, Life, no_life, no_retries, path_of, life_at, status_at, outcome_in, settled_outcome, known, known_from}
 use Rattle.kernel_model.specs.Invariants.{AllKnown, IsValue, AllValues, IsBelow, IsLife, HasRun}
 use Rattle.kernel_model.specs.Acts.{put, pending}
@@ -171,3 +173,22 @@ value_some (Some outcome) h = refl
 pub values-known : (ts : Tasks) (ps : List Path) → AllValues ts ps → AllKnown ts ps
 values-known ts [] h = tt
 values-known ts (p ∷ ps) h = (value_some (outcome_at ts p) h.0, values-known ts ps h.1)
+
+-- ---- the states of settled tasks
+
+-- what holds of the three states in which outcomes settle tasks
+pub by-state : (P : Status → Type 0) → P status.ExecDone → P status.DepFail → P status.Failed → (outcome : Outcome) → P (status_of outcome)
+by-state P done dependency failed (o.Value value files) = done
+by-state P done dependency failed (o.Failed x.ZeroDivisionError) = failed
+by-state P done dependency failed (o.Failed x.OverflowError) = failed
+by-state P done dependency failed (o.Failed x.TypeError) = failed
+by-state P done dependency failed (o.Failed x.IndexError) = failed
+by-state P done dependency failed (o.Failed x.ValueError) = failed
+by-state P done dependency failed (o.Failed x.SizeError) = failed
+by-state P done dependency failed (o.Failed x.BudgetError) = failed
+by-state P done dependency failed (o.Failed x.MissingOutputs) = failed
+by-state P done dependency failed (o.Failed (x.AppError text)) = failed
+by-state P done dependency failed (o.Failed (x.DependencyError paths)) = dependency
+by-state P done dependency failed (o.Failed (x.JoinError paths)) = failed
+by-state P done dependency failed (o.Failed x.DepthError) = failed
+by-state P done dependency failed (o.Failed (x.ManagerLost manager)) = failed

@@ -3,7 +3,6 @@ use Rattle.std.proofs.Common.{◌≡◌, ◌≢◌, ℕ, zero, suc, ◌+◌, ◌
 use Rattle.std.specs.Prelude.{is_some}
 use Rattle.std.proofs.lemmas.Bool.{cases_eq, or_parts}
 use Rattle.flow_base.specs.declared.outcome.Exception.{Exception}
-use Rattle.flow_base.specs.declared.outcome.Exception.TheVariants as x
 use Rattle.flow_base.specs.declared.outcome.Outcome.{Outcome}
 use Rattle.flow_base.specs.declared.outcome.Outcome.TheVariants as o
 use Rattle.script_tree.specs.declared.small.SmallStatement.{SmallStatement}
@@ -15,8 +14,8 @@ use Rattle.event_log.specs.declared.entry.Entry.TheVariants as entry
 use Rattle.flow_meaning.specs.Inputs.{Path}
 use Rattle.flow_meaning.specs.Sequential.{outcome_at}
 use Rattle.flow_meaning.specs.Operators.{Text}
-use Rattle.flow_laws.specs.Reads.{has_end}
-use Rattle.flow_laws.specs.Tables.{status_of}
+use Rattle.history_laws.specs.Reads.{has_end}
+use Rattle.history_laws.specs.Tables.{status_of}
 use Rattle.dependency_graph.specs.declared.readiness.Readiness.{Readiness}
 use Rattle.dependency_graph.specs.declared.readiness.Readiness.TheVariants as readiness
 use Rattle.dependency_graph.specs.Readiness.{ready}
@@ -29,7 +28,7 @@ use Rattle.kernel_model.specs.Invariants.{AllKnown, AreBelow, IsReached, Inv}
 use Rattle.kernel_model.specs.Acts.{pending, put, started, finished, settled_as, over}
 use Rattle.kernel_model.specs.Turns.{with_outcome, statement_step, unless_raised, script_step, IsCallback, CallbackTurn, SettleTurn, EndTurn, carried_out}
 use Rattle.kernel_model.specs.Work.{turns_of, turns_in, last_turn, turns_left, NoneRuns}
-use Rattle.kernel_model.proofs.Places.{life-same, life-other, known-at, status-within}
+use Rattle.kernel_model.proofs.Places.{life-same, life-other, known-at, status-within, by-state}
 use Rattle.kernel_model.proofs.Agreeing.{small-below}
 
 -- ---- each turn leaves fewer turns
@@ -53,22 +52,6 @@ put-leaves w k life e s same is there ends fewer =
     omega arith
 
 -- a settled task takes no turn, and doesn't run
-by-state : (P : Status → Type 0) → P status.ExecDone → P status.DepFail → P status.Failed → (outcome : Outcome) → P (status_of outcome)
-by-state P done dependency failed (o.Value value files) = done
-by-state P done dependency failed (o.Failed x.ZeroDivisionError) = failed
-by-state P done dependency failed (o.Failed x.OverflowError) = failed
-by-state P done dependency failed (o.Failed x.TypeError) = failed
-by-state P done dependency failed (o.Failed x.IndexError) = failed
-by-state P done dependency failed (o.Failed x.ValueError) = failed
-by-state P done dependency failed (o.Failed x.SizeError) = failed
-by-state P done dependency failed (o.Failed x.BudgetError) = failed
-by-state P done dependency failed (o.Failed x.MissingOutputs) = failed
-by-state P done dependency failed (o.Failed (x.AppError text)) = failed
-by-state P done dependency failed (o.Failed (x.DependencyError paths)) = dependency
-by-state P done dependency failed (o.Failed (x.JoinError paths)) = failed
-by-state P done dependency failed (o.Failed x.DepthError) = failed
-by-state P done dependency failed (o.Failed (x.ManagerLost manager)) = failed
-
 turns-settled : (outcome : Outcome) → turns_of (status_of outcome) ≡ 0
 turns-settled = by-state (λ s. turns_of s ≡ 0) refl refl refl
 

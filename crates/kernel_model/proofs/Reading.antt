@@ -7,16 +7,16 @@ use Rattle.event_log.specs.declared.entry.Entry.TheVariants as entry
 use Rattle.flow_meaning.specs.Inputs.{Path}
 use Rattle.flow_meaning.specs.Operators.{Text}
 use Rattle.flow_meaning.specs.Sequential.{MainAct}
-use Rattle.flow_laws.specs.declared.table.Act.{Act}
-use Rattle.flow_laws.specs.declared.table.Act.TheVariants as act
-use Rattle.flow_laws.specs.declared.table.Retries.{Retries}
-use Rattle.flow_laws.specs.Reads.{History, submits, is_submitted, settled, has_end}
-use Rattle.flow_laws.specs.Tables.{calls_in, waits_before, acts_of}
-use Rattle.flow_laws.specs.Laws.{AllSettled}
+use Rattle.history_laws.specs.declared.table.MainEvent.{MainEvent}
+use Rattle.history_laws.specs.declared.table.MainEvent.TheVariants as act
+use Rattle.history_laws.specs.declared.table.Retries.{Retries}
+use Rattle.history_laws.specs.Reads.{History, submits, is_submitted, settled, has_end}
+use Rattle.history_laws.specs.Tables.{calls_in, waits_before, acts_of}
+use Rattle.history_laws.specs.Laws.{AllSettled}
 use Rattle.kernel_model.specs.Known.{Life, path_of, printed_in}
 use Rattle.kernel_model.specs.Invariants.{IsLife, WaitsSettled}
 use Rattle.std.proofs.Common.{append_assoc}
-use Rattle.flow_laws.specs.Tables.{act_of}
+use Rattle.history_laws.specs.Tables.{act_of}
 use Rattle.kernel_model.specs.Known.{printed_by}
 use Rattle.kernel_model.proofs.Places.{path-other}
 
@@ -118,31 +118,31 @@ settled-stays (entry.Settled q s) p b h = some_if (bytes_eq p q) s (settled p b)
 settled-stays (entry.Submit q app) p b h = h
 settled-stays entry.End p b h = h
 
-pub waits-stay : (e : Entry) (acts : List Act) (b : History) → WaitsSettled acts b → WaitsSettled acts (e ∷ b)
+pub waits-stay : (e : Entry) (acts : List MainEvent) (b : History) → WaitsSettled acts b → WaitsSettled acts (e ∷ b)
 waits-stay e [] b h = tt
 waits-stay e (act.Call ∷ acts) b h = waits-stay e acts b h
 waits-stay e (act.Wait p ∷ acts) b h = (settled-stays e p b h.0, waits-stay e acts b h.1)
 
 -- acts, one after another
-pub waits-append : (xs ys : List Act) (b : History) → WaitsSettled xs b → WaitsSettled ys b → WaitsSettled (xs ++ ys) b
+pub waits-append : (xs ys : List MainEvent) (b : History) → WaitsSettled xs b → WaitsSettled ys b → WaitsSettled (xs ++ ys) b
 waits-append [] ys b h g = g
 waits-append (act.Call ∷ xs) ys b h g = waits-append xs ys b h g
 waits-append (act.Wait p ∷ xs) ys b h g = (h.0, waits-append xs ys b h.1 g)
 
-pub calls-append : (xs ys : List Act) → calls_in (xs ++ ys) ≡ calls_in xs + calls_in ys
+pub calls-append : (xs ys : List MainEvent) → calls_in (xs ++ ys) ≡ calls_in xs + calls_in ys
 calls-append [] ys = omega arith
 calls-append (act.Call ∷ xs) ys = let e = calls-append xs ys in omega arith
 calls-append (act.Wait p ∷ xs) ys = calls-append xs ys
 
 -- further acts change no waits before a call that is there
-pub waits_before-append : (k : ℕ) (xs ys : List Act) → k < calls_in xs → waits_before k (xs ++ ys) ≡ waits_before k xs
+pub waits_before-append : (k : ℕ) (xs ys : List MainEvent) → k < calls_in xs → waits_before k (xs ++ ys) ≡ waits_before k xs
 waits_before-append k [] ys lt = absurd (omega arith)
 waits_before-append zero (act.Call ∷ xs) ys lt = refl
 waits_before-append (suc k) (act.Call ∷ xs) ys lt = waits_before-append k xs ys (omega arith)
 waits_before-append zero (act.Wait p ∷ xs) ys lt = ap (λ (ps : List Path). p ∷ ps) (waits_before-append zero xs ys lt)
 waits_before-append (suc k) (act.Wait p ∷ xs) ys lt = ap (λ (ps : List Path). p ∷ ps) (waits_before-append (suc k) xs ys lt)
 
-waited : (k : ℕ) (acts : List Act) (b : History) → k ≡ calls_in acts → WaitsSettled acts b → AllSettled (waits_before k (acts ++ act.Call ∷ [])) b
+waited : (k : ℕ) (acts : List MainEvent) (b : History) → k ≡ calls_in acts → WaitsSettled acts b → AllSettled (waits_before k (acts ++ act.Call ∷ [])) b
 waited zero [] b e h = tt
 waited (suc k) [] b e h = tt
 waited zero (act.Call ∷ acts) b e h = tt
@@ -151,7 +151,7 @@ waited zero (act.Wait p ∷ acts) b e h = (h.0, waited zero acts b e h.1)
 waited (suc k) (act.Wait p ∷ acts) b e h = (h.0, waited (suc k) acts b e h.1)
 
 -- all that main waited for before its next call has settled
-pub waits_before-settled : (acts : List Act) (b : History) → WaitsSettled acts b → AllSettled (waits_before (calls_in acts) (acts ++ act.Call ∷ [])) b
+pub waits_before-settled : (acts : List MainEvent) (b : History) → WaitsSettled acts b → AllSettled (waits_before (calls_in acts) (acts ++ act.Call ∷ [])) b
 waits_before-settled acts b h = waited (calls_in acts) acts b refl h
 
 pub acts_of-append : (xs ys : List MainAct) → acts_of (xs ++ ys) ≡ acts_of xs ++ acts_of ys

@@ -14,7 +14,7 @@ use Rattle.dependency_graph.specs.declared.monitor.Settlement.{Settlement}
 use Rattle.flow_meaning.specs.Operators.{Text}
 use Rattle.flow_meaning.specs.Evaluations.{name_in}
 use Rattle.flow_meaning.specs.Sequential.{Calls, Waits, Prints}
-use Rattle.flow_laws.specs.Tables.{status_of}
+use Rattle.history_laws.specs.Tables.{status_of}
 use Rattle.small_meaning.specs.Plan.{names_of, place_of, argument_in}
 use Rattle.small_meaning.specs.Steps.{value_of_argument}
 use Rattle.kernel_model.specs.Known.{Known, Call, Life, path_of, life_at, word_of, apps_in}

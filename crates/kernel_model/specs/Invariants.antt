@@ -14,14 +14,14 @@ use Rattle.task_record.specs.States.{is_settled}
 use Rattle.flow_meaning.specs.Inputs.{Path}
 use Rattle.flow_meaning.specs.Evaluations.{name_in}
 use Rattle.flow_meaning.specs.Sequential.{Tasks, outcome_at, outcome_of, main_ran, main_answer, perform}
-use Rattle.flow_laws.specs.declared.table.Act.{Act}
-use Rattle.flow_laws.specs.declared.table.Act.TheVariants as act
-use Rattle.flow_laws.specs.declared.table.Expected.{Expected}
-use Rattle.flow_laws.specs.declared.table.Retries.{Retries}
-use Rattle.flow_laws.specs.declared.table.Table.{Table}
-use Rattle.flow_laws.specs.Reads.{History, submits, is_submitted, settled, launches, stage, last_try, Stage, Unlaunched, Waiting, Running, Over, costs, cost, has_end, lost}
-use Rattle.flow_laws.specs.Tables.{task_at, calls_in, waits_before, acts_of, status_of, expected}
-use Rattle.flow_laws.specs.Legal.{IsLegal}
+use Rattle.history_laws.specs.declared.table.MainEvent.{MainEvent}
+use Rattle.history_laws.specs.declared.table.MainEvent.TheVariants as act
+use Rattle.history_laws.specs.declared.table.Expected.{Expected}
+use Rattle.history_laws.specs.declared.table.Retries.{Retries}
+use Rattle.history_laws.specs.declared.table.Table.{Table}
+use Rattle.history_laws.specs.Reads.{History, submits, is_submitted, settled, launches, stage, last_try, Stage, Unlaunched, Waiting, Running, Over, costs, cost, has_end, lost}
+use Rattle.history_laws.specs.Tables.{task_at, calls_in, waits_before, acts_of, status_of, expected}
+use Rattle.history_laws.specs.Legal.{IsLegal}
 use Rattle.small_meaning.specs.Calls.{Argument}
 use Rattle.small_meaning.specs.Plan.{is_sound, is_sound_main, takes}
 use Rattle.small_meaning.specs.Calls as argument
@@ -170,7 +170,7 @@ pub record Knows (w : Known) (z : Table) : Type 0 where
   pub over : is_main_over w ≡ true → KnowsAll w z
 
 -- what main waited for has settled
-abbrev pub WaitsSettled : List Act → History → Type 0
+abbrev pub WaitsSettled : List MainEvent → History → Type 0
 WaitsSettled [] b = Unit {0}
 WaitsSettled (act.Call ∷ acts) b = WaitsSettled acts b
 WaitsSettled (act.Wait p ∷ acts) b = IsSome (settled p b) × WaitsSettled acts b

@@ -20,10 +20,10 @@ use Rattle.flow_meaning.specs.Act.{Act, Throw}
 use Rattle.flow_meaning.specs.Meaning.{Done}
 use Rattle.flow_meaning.specs.Inputs.{Path, inputs}
 use Rattle.flow_meaning.specs.Operators.{Text}
-use Rattle.flow_meaning.specs.Sequential.{Task, Tasks, Made, Main, MainAct, Prints, Rule, makes, no_calls, rule, resolved, apply}
+use Rattle.flow_meaning.specs.Sequential.{Task, Tasks, Made, Main, MainAct, Prints, Rule, makes, no_calls, rule, resolved, apply, main_room}
 use Rattle.dependency_graph.specs.declared.monitor.Settlement.{Settlement}
-use Rattle.flow_laws.specs.Reads.{History, has_end, value_word}
-use Rattle.flow_laws.specs.declared.table.Retries.{Retries}
+use Rattle.history_laws.specs.Reads.{History, has_end, value_word}
+use Rattle.history_laws.specs.declared.table.Retries.{Retries}
 use Rattle.small_meaning.specs.Steps.{small_rest}
 
 -- a call of main
@@ -156,7 +156,7 @@ abbrev pub Losses : Type 0
 Losses = Path → Option ℕ
 
 abbrev pub rule_in : Losses → Known → Rule
-rule_in losses w = rule (apps_in w) losses 63
+rule_in losses w = rule (apps_in w) losses main_room
 
 -- main, where its calls are evaluated under these losses
 abbrev pub main_at : Losses → Known → Main

@@ -4,7 +4,7 @@ use Rattle.flow_base.specs.declared.outcome.Exception.{Exception}
 use Rattle.script_tree.specs.declared.small.SmallStatement.{SmallStatement}
 use Rattle.task_record.specs.declared.status.Status.{Status}
 use Rattle.task_record.specs.declared.status.Status.TheVariants as status
-use Rattle.flow_laws.specs.Reads.{has_end}
+use Rattle.history_laws.specs.Reads.{has_end}
 use Rattle.kernel_model.specs.Known.{Known, Life, status_at}
 
 -- the turns that a task in this state still takes

@@ -7,14 +7,14 @@ ghost use Rattle.parsl_engine.specs.Scripts.{IsOfText};
 
 use event_log::{Entries, print_log};
 use flow_base::{Path, Paths, Text};
-use flow_laws::{Act, Expected, Retries, Table};
+use history_laws::{Expected, MainEvent, Retries, Table};
+use history_verdict::verdict::verdict;
 use kernel_core::{Kernel, Ledger, Opening, Refusal, ScriptTurn};
-use log_verdict::verdict::verdict;
 use parsl_engine::run_attempt;
 use parsl_engine::script::{is_small, read_script};
 use run_report::head;
 use script_tree::checked::Checked;
-use sqlite_items::Items;
+use sqlite_items::Items as ListOf;
 use std::alloc::{AllocError, Global};
 use std::sync::Arc;
 use std::test::Fail;
@@ -134,8 +134,8 @@ fn expected(alloc: Global, number: u32, inputs: &[u32]) -> Result<Expected, Allo
 }
 
 fn diamond_table(alloc: Global) -> Result<Table, AllocError> {
-    let mut tasks = Items::new(alloc);
-    let mut acts = Items::new(alloc);
+    let mut tasks = ListOf::new(alloc);
+    let mut acts = ListOf::new(alloc);
     for (number, inputs) in [
         (1, [].as_slice()),
         (2, [1].as_slice()),
@@ -143,7 +143,7 @@ fn diamond_table(alloc: Global) -> Result<Table, AllocError> {
         (4, [2, 3].as_slice()),
     ] {
         tasks.push(expected(alloc, number, inputs)?)?;
-        acts.push(Act::Call)?;
+        acts.push(MainEvent::Call)?;
     }
     Ok(Table { tasks, acts })
 }
@@ -159,7 +159,7 @@ fn turns_in_both_orders_give_one_head_and_legal_logs(rt: HostRuntime) -> Result<
     let alloc = rt.alloc();
     let table = diamond_table(alloc)?;
     let retries = Retries {
-        costs: Items::new(alloc),
+        costs: ListOf::new(alloc),
         limit: 0,
     };
     for (order, log) in [

@@ -4,7 +4,7 @@ use Rattle.script_tree.specs.declared.token.Token.{Token}
 use Rattle.script_tree.specs.declared.token.Token.TheVariants as t
 use Rattle.script_tree.specs.declared.token.Symbol.TheVariants as s
 use Rattle.script_tree.specs.Lexing.{Text, lex}
-use Rattle.script_tree.specs.Grammar.{Tree, HasTree, IsNestedWithin, nesting_after, tokens_of}
+use Rattle.script_tree.specs.Grammar.{Tree, HasTree, IsNestedWithin, nesting_after, max_nesting, tokens_of}
 use Rattle.script_tree.specs.Spelling.{Tokens, script}
 use Rattle.meaning_examples.proofs.TreeFolds.{tree_folds}
 use Rattle.meaning_examples.proofs.Trees.{block}
@@ -32,7 +32,7 @@ nested-from : (n : ℕ) (ts : Tokens) → fold nesting_after n ts ≤ n + length
 nested-from n [] = omega arith
 nested-from n (token ∷ ts) = omega (arith, one-deeper n token, nested-from (nesting_after n token) ts)
 
-few-nested : (ts : Tokens) → length ts ≤ 64 → IsNestedWithin ts
+few-nested : (ts : Tokens) → length ts ≤ max_nesting → IsNestedWithin ts
 few-nested ts few front rest is = omega (arith, nested-from 0 front, length-append front rest, ap length is)
 
 -- ---- texts that have these trees, with their tokens at these places

@@ -1,6 +1,7 @@
 -- An attempt that is fetched, evaluated and delivered.
-use Rattle.std.proofs.Common.{◌≡◌, ℕ, length, Option, Some, None, refl, sym, ◌∙◌, ap, subst, arith, length-set}
+use Rattle.std.proofs.Common.{◌≡◌, ℕ, false, length, Option, Some, None, refl, sym, ◌∙◌, ap, subst, arith, length-set}
 use Rattle.std.specs.Prelude.{slice_get}
+use Rattle.std.proofs.lemmas.Bool.{or_parts}
 use Rattle.flow_base.specs.declared.outcome.Ended.{Ended}
 use Rattle.script_tree.specs.declared.tree.AppDef.{AppDef}
 use Rattle.script_tree.specs.Grammar.{Tree}
@@ -8,10 +9,11 @@ use Rattle.script_tree.specs.Small.{tree_of}
 use Rattle.task_record.specs.declared.status.Status.TheVariants as status
 use Rattle.event_log.specs.declared.entry.Entry.TheVariants as entry
 use Rattle.flow_meaning.specs.Sequential.{Tasks, resolved, outcome_of}
+use Rattle.history_laws.specs.Reads.{has_end}
 use Rattle.kernel_model.specs.declared.answers.Delivered.{Delivered}
 use Rattle.kernel_model.specs.declared.answers.Delivered.TheVariants.{Taken, Stale}
 use Rattle.kernel_model.specs.Jobs.{JobView, DoneView}
-use Rattle.kernel_model.specs.Known.{Known, Call, Life, path_of, call_at, life_at, status_at, known, end_in, end_at, apps_in}
+use Rattle.kernel_model.specs.Known.{Known, Call, Life, path_of, call_at, life_at, status_at, known, end_in, end_at, has_ended, apps_in}
 use Rattle.kernel_model.specs.Invariants.{Inv}
 use Rattle.kernel_model.specs.Acts.{started, finished}
 use Rattle.kernel_model.specs.Turns.{body_end, job_of, Fetches, FetchTurn, IsEndOf, IsRunning, DeliverTurn}
@@ -62,3 +64,11 @@ attempted w u v found job tree done answer has fetch inv is of end turn =
     let same : length w.lives ≡ length w.calls = sym (length-set w.lives k _) ∙ kept.lives in
     let here : tree ≡ tree_of w.script = is ∙ ap (λ (s : Known). tree_of s.script) f.after in
     by_answer w k done answer v same f.waiting (of ∙ f.is) (subst (λ (t : Tree). IsEndOf t.0 done) here end) (subst (λ (s : Known). DeliverTurn s done answer v) f.after turn)
+
+-- ---- a run that is cut short
+
+-- a start leaves the history without an end
+pub fetched-unended : (w v : Known) (found : Option JobView) (job : JobView) → has_ended w ≡ false → found ≡ Some job → FetchTurn w found v → has_end v.past ≡ false
+fetched-unended w v found job going has fetch =
+    let did : Fetches w job v = subst (λ (o : Option JobView). FetchTurn w o v) has fetch in
+    ap (λ (u : Known). has_end u.past) did.after ∙ (or_parts w.refused (has_end w.past) going).1

@@ -4,14 +4,13 @@ use Rattle.std.specs.declared.result.Result.{Result}
 use Rattle.std.proofs.lemmas.List.{take_all}
 use Rattle.flow_base.specs.Shelf.{ShelfState, Reads}
 use Rattle.flow_base.specs.Sink.{SinkState}
-use Rattle.flow_base.specs.declared.shelf.CallKind.TheVariants.{Read}
 use Rattle.flow_base.specs.declared.shelf.ShelfFault.{ShelfFault}
 use Rattle.parsl_engine.specs.declared.words.Command.{Command}
 use Rattle.parsl_engine.specs.declared.script.ScriptRefusal.{ScriptRefusal}
-use Rattle.parsl_engine.specs.declared.ending.Ending.{Ending}
-use Rattle.parsl_engine.specs.declared.ending.Ending.TheVariants.{Done, Refused, Unread, Unwritten, NoMemory}
+use Rattle.parsl_engine.specs.declared.exit.Exit.{Exit}
+use Rattle.parsl_engine.specs.declared.exit.Exit.TheVariants.{Done, Refused, Unread, Unwritten, NoMemory}
 use Rattle.parsl_engine.specs.Output.{Refuses}
-use Rattle.parsl_engine.specs.Course.{read_limit, WritesPart, WritesWhole, Printed, Answers, Course}
+use Rattle.parsl_engine.specs.Course.{read_limit, read_of, WritesPart, WritesWhole, Printed, Answers, Course}
 use Rattle.parsl_engine.proofs.Refusals.{one_refusal, not_refused}
 
 all_is_part : (c : Command) (bytes : List ℕ) (tells : Bool) (out out' : SinkState) → WritesWhole c bytes tells out out' → WritesPart c bytes tells out out'
@@ -25,7 +24,7 @@ all_is_part c bytes tells out out' w = record {
 refused_is : (a b : ScriptRefusal) → Refused a ≡ Refused b → a ≡ b
 refused_is a b e = cc
 
-pub answered : (c : Command) (bytes : List ℕ) (tells : Bool) (out out' : SinkState) (e : Ending) → Printed c bytes e tells out out' → Answers c bytes e tells out out'
+pub answered : (c : Command) (bytes : List ℕ) (tells : Bool) (out out' : SinkState) (e : Exit) → Printed c bytes e tells out out' → Answers c bytes e tells out out'
 answered c bytes tells out out' Done p = record {
   done = λ z. p;
   refused = λ r z. absurd (cc);
@@ -67,7 +66,7 @@ abbrev not_read : ShelfFault → Result (Vec ℕ Global) ShelfFault
 not_read fault = Err fault
 
 module _ (c : Command) (name : List ℕ) (shelf_tells out_tells : Bool) (shelf shelf' : ShelfState) (out out' : SinkState) where
-  pub course-read : (bytes : Vec ℕ Global) (e : Ending) → Reads shelf_tells name read_limit shelf (was_read bytes) shelf' → Printed c bytes.items e out_tells out out'
+  pub course-read : (bytes : Vec ℕ Global) (e : Exit) → Reads shelf_tells name read_limit shelf (was_read bytes) shelf' → Printed c bytes.items e out_tells out out'
       → Course c name e shelf_tells out_tells shelf shelf' out out'
   course-read bytes e r printed = let answers = answered c bytes.items out_tells out out' e printed in record {
     given = Some bytes.items;
@@ -77,5 +76,6 @@ module _ (c : Command) (name : List ℕ) (shelf_tells out_tells : Bool) (shelf s
     nothing = λ none. absurd (cc);
     unread = λ six. absurd (answers.not_unread six);
     kept = λ z. r.count;
-    calls = λ t. record { made = record { kind = Read; name = name; failed = false } ∷ []; added = r.calls t; follows = (refl, refl, (λ f. absurd (cc)), tt) };
+    calls = λ t. record { made = read_of name ∷ []; added = r.calls t; follows = (refl, refl, (λ f. absurd (cc)), tt) };
+    one_read = r.calls;
   }

@@ -3,6 +3,7 @@ use Rattle.std.proofs.Common.{◌≡◌, ℕ, suc, true, false, List, [], ◌∷
 use Rattle.std.specs.Prelude.{ℤ}
 use Rattle.std.specs.List.{list_all}
 use Rattle.std.specs.declared.result.Result.{Result}
+use Rattle.std.specs.declared.alloc.AllocError.{AllocError}
 use Rattle.script_tree.specs.declared.tree.AppDef.{AppDef}
 use Rattle.script_tree.specs.declared.small.SmallScript.{SmallScript}
 use Rattle.script_tree.specs.Grammar.{Tree, PlacedTree, HasTree}
@@ -20,16 +21,18 @@ use Rattle.small_meaning.specs.Plan.{is_sound, names_of, new_calls, values_from,
 use Rattle.small_meaning.proofs.Sums.{and-true}
 use Rattle.small_meaning.proofs.Whole.{evaluation-is, evaluation-overflows}
 use Rattle.kernel_core.specs.Views.{Opens}
+use Rattle.event_log.specs.declared.entry.Entry.{Entry}
 use Rattle.run_report.specs.Reported.{report_text}
 use Rattle.parsl_engine.specs.declared.words.Command.TheVariants as command
 use Rattle.parsl_engine.specs.declared.script.ScriptRefusal.TheVariants.{Parse, Check, NotYet}
 use Rattle.parsl_engine.specs.declared.script.ScriptFault.{ScriptFault}
 use Rattle.parsl_engine.specs.declared.script.ScriptFault.TheVariants.{Refused, NoMemory}
 use Rattle.parsl_engine.specs.declared.run.PartEnd.{PartEnd}
+use Rattle.parsl_engine.specs.declared.run.PartEnd.TheVariants.{Ended, Refused as run_refused}
 use Rattle.parsl_engine.specs.declared.run.RunEnd.{RunEnd}
-use Rattle.parsl_engine.specs.Runs.{HasRun, Goes, IsRun}
+use Rattle.parsl_engine.specs.Runs.{IsWholeLog, HasRun, Goes, IsRun}
 use Rattle.parsl_engine.specs.Scripts.{IsOfText}
-use Rattle.parsl_engine.specs.Output.{Gives, Gave, Tells, has_value}
+use Rattle.parsl_engine.specs.Output.{Gives, ReportsOn, TellsEnd, Tells, has_value}
 use Rattle.parsl_engine.proofs.Sound.{is-sound}
 
 -- a small script that is well formed is sound
@@ -73,27 +76,30 @@ failed-overflows small sound failed = by_values (values_from small.apps (new_cal
 
 -- ---- what is produced
 
-gives : (tree : Tree) (run : RunEnd) (e : Evaluation) → IsRun tree run → Gave run e → HasRun tree run
-gives tree run e is gave = subst (λ (end : PartEnd). Goes tree run end) gave.ended is
+-- the report of the sequential evaluation and of a legal and complete log
+reports : (script : PlacedTree) (log : List Entry) (e : Evaluation) (r : Result (Vec ℕ Global) ScriptFault) → IsOfText script → IsSmall script.tree → IsWholeLog script.tree log → e ≡ evaluation script.tree → ReportsOn e log r
+    → Gives command.Run script r
+reports script log e (Ok text) of small whole same told = record {
+  can_run = record { small = small; in_range = valued-in-range script.tree (ap (λ (e : Evaluation). list_all has_value e.tasks) (sym same) ∙ told.0) };
+  log = log;
+  whole = whole;
+  report = told.1 ∙ ap (λ (e : Evaluation). report_text e log) same;
+}
+reports script log e (Err (Refused NotYet)) of small whole same told = λ can_run.
+    let failed = ap (λ (t : Tree). list_all has_value (evaluation t).tasks) small.is ∙ ap (λ (e : Evaluation). list_all has_value e.tasks) (sym same) ∙ told in
+    subst IsInRange (sym small.is) can_run.in_range (failed-overflows small.small (sound_of small.small script.tree small.is of.is.well_formed) failed)
+reports script log e (Err (Refused (Parse kind place))) of small whole same told = absurd told
+reports script log e (Err (Refused (Check kind place))) of small whole same told = absurd told
+reports script log e (Err NoMemory) of small whole same told = tt
 
-evaluation-of : (tree : Tree) (run : RunEnd) (e : Evaluation) → HasRun tree run → Gave run e → e ≡ evaluation tree
-evaluation-of tree run e has gave = rw gave.gave at has.gives
+given : (script : PlacedTree) (run : RunEnd) (gave : Result Evaluation AllocError) (r : Result (Vec ℕ Global) ScriptFault) → IsOfText script → IsSmall script.tree → HasRun script.tree run → run.evaluation ≡ gave → TellsEnd Ended gave run.history r
+    → Gives command.Run script r
+given script run (Ok e) r of small has is told = reports script run.history e r of small has.log (let same = has.gives in rw is at same) told
+given script run (Err fault) r of small has is told = subst (Gives command.Run script) (sym told) tt
+
+ends : (script : PlacedTree) (run : RunEnd) (end : PartEnd) (r : Result (Vec ℕ Global) ScriptFault) → IsOfText script → IsSmall script.tree → Goes script.tree run end → TellsEnd end run.evaluation run.history r → Gives command.Run script r
+ends script run Ended r of small goes told = given script run run.evaluation r of small goes refl told
+ends script run (run_refused refusal) r of small goes told = subst (Gives command.Run script) (sym told) tt
 
 pub run_gives : (script : PlacedTree) (run : RunEnd) (r : Result (Vec ℕ Global) ScriptFault) → IsOfText script → IsSmall script.tree → IsRun script.tree run → Tells run r → Gives command.Run script r
-run_gives script run (Ok text) of small is tells =
-    let has = gives script.tree run tells.evaluation is tells.gave in
-    let same = evaluation-of script.tree run tells.evaluation has tells.gave in
-    record {
-      can_run = record { small = small; in_range = valued-in-range script.tree (ap (λ (e : Evaluation). list_all has_value e.tasks) (sym same) ∙ tells.values) };
-      log = run.history;
-      whole = has.log;
-      report = tells.is ∙ ap (λ (e : Evaluation). report_text e run.history) same;
-    }
-run_gives script run (Err (Refused NotYet)) of small is tells = λ can_run.
-    let has = gives script.tree run tells.evaluation is tells.gave in
-    let same = evaluation-of script.tree run tells.evaluation has tells.gave in
-    let failed = ap (λ (t : Tree). list_all has_value (evaluation t).tasks) small.is ∙ ap (λ (e : Evaluation). list_all has_value e.tasks) (sym same) ∙ tells.failed in
-    subst IsInRange (sym small.is) can_run.in_range (failed-overflows small.small (sound_of small.small script.tree small.is of.is.well_formed) failed)
-run_gives script run (Err (Refused (Parse kind place))) of small is tells = absurd tells
-run_gives script run (Err (Refused (Check kind place))) of small is tells = absurd tells
-run_gives script run (Err NoMemory) of small is tells = tt
+run_gives script run r of small is tells = ends script run run.end r of small is tells

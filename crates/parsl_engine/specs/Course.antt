@@ -1,14 +1,15 @@
 -- How a call goes: what it asks of the outside, what it writes, and what its status says.
-use Rattle.std.specs.Prelude.{◌≡◌, ◌≢◌, ◌⊎◌, ℕ, ◌+◌, Bool, true, IsTrue, List, [], ◌∷◌, ◌++◌, take, decimal, option_map, codes, IfSome, None, Some}
+use Rattle.std.specs.Prelude.{◌≡◌, ◌≢◌, ◌⊎◌, ℕ, ◌+◌, Bool, true, false, IsTrue, List, [], ◌∷◌, ◌++◌, take, decimal, option_map, codes, IfSome, None, Some}
 use Rattle.std.specs.declared.option.Option.{Option}
 use Rattle.flow_base.specs.Causes.{Rose}
-use Rattle.flow_base.specs.Shelf.{ShelfState, Stand, Call}
+use Rattle.flow_base.specs.Shelf.{ShelfState, Stand, ShelfCall}
 use Rattle.flow_base.specs.Sink.{SinkState, Adds, AddsPart, AddsUnlessFailed}
 use Rattle.flow_base.specs.declared.shelf.CallKind.{CallKind}
 use Rattle.flow_base.specs.declared.shelf.CallKind.TheVariants.{Read}
+use Rattle.script_tree.specs.Faults.{syntax_number, rule_number}
 use Rattle.script_tree.specs.Grammar.{max_text}
-use Rattle.parsl_engine.specs.declared.ending.Ending.{Ending}
-use Rattle.parsl_engine.specs.declared.ending.Ending.TheVariants.{Done, Refused, Unread, Unwritten, NoMemory}
+use Rattle.parsl_engine.specs.declared.exit.Exit.{Exit}
+use Rattle.parsl_engine.specs.declared.exit.Exit.TheVariants.{Done, Refused, Unread, Unwritten, NoMemory}
 use Rattle.parsl_engine.specs.declared.script.ScriptRefusal.{ScriptRefusal}
 use Rattle.parsl_engine.specs.declared.script.ScriptRefusal.TheVariants.{Parse, Check, NotYet}
 use Rattle.parsl_engine.specs.declared.words.Command.{Command}
@@ -23,13 +24,13 @@ newline = 10 ∷ []
 abbrev pub words_line : List ℕ
 words_line = codes "parsl: words" ++ newline
 
--- a fault's kind and place, behind what names it
+-- a fault's number and place, behind what names it
 abbrev pub fault_line : List ℕ → ℕ → ℕ → List ℕ
-fault_line front kind place = (front ++ decimal kind) ++ ((codes " at " ++ decimal place) ++ newline)
+fault_line front number place = (front ++ decimal number) ++ ((codes " at " ++ decimal place) ++ newline)
 
 abbrev pub refusal_line : ScriptRefusal → List ℕ
-refusal_line (Parse kind place) = fault_line (codes "parsl: script: parse ") kind place
-refusal_line (Check kind place) = fault_line (codes "parsl: script: check ") kind place
+refusal_line (Parse kind place) = fault_line (codes "parsl: script: parse ") (syntax_number kind) place
+refusal_line (Check kind place) = fault_line (codes "parsl: script: check ") (rule_number kind) place
 refusal_line NotYet = codes "parsl: script: not yet" ++ newline
 
 abbrev pub read_line : List ℕ → List ℕ
@@ -41,7 +42,7 @@ write_line = codes "parsl: write" ++ newline
 abbrev pub memory_line : List ℕ
 memory_line = codes "parsl: memory" ++ newline
 
-abbrev pub status_of : Ending → ℕ
+abbrev pub status_of : Exit → ℕ
 status_of Done = 0
 status_of (Refused refusal) = 3
 status_of Unread = 6
@@ -49,7 +50,7 @@ status_of Unwritten = 7
 status_of NoMemory = 12
 
 -- the line of a call that names this script
-abbrev pub line_of : List ℕ → Ending → List ℕ
+abbrev pub line_of : List ℕ → Exit → List ℕ
 line_of name Done = []
 line_of name (Refused refusal) = refusal_line refusal
 line_of name Unread = read_line name
@@ -63,18 +64,22 @@ abbrev pub read_limit : ℕ
 read_limit = max_text + 1
 
 -- a read of a name may have given these bytes
-abbrev pub Gave : Bool → ShelfState → List ℕ → List ℕ → Type 0
-Gave tells shelf name bytes = IsTrue tells → option_map (λ s. take read_limit (Stand.held s)) (shelf.stands name) ≡ Some bytes
+abbrev pub WasRead : Bool → ShelfState → List ℕ → List ℕ → Type 0
+WasRead tells shelf name bytes = IsTrue tells → option_map (λ s. take read_limit (Stand.held s)) (shelf.stands name) ≡ Some bytes
 
 -- these calls, in this order or the first of them; none behind one that failed
-abbrev pub Follows : List Call → List (CallKind × List ℕ) → Type 0
+abbrev pub Follows : List ShelfCall → List (CallKind × List ℕ) → Type 0
 Follows [] expected = Unit {0}
 Follows (call ∷ calls) [] = ⊥
 Follows (call ∷ calls) (e ∷ expected) = (call.kind ≡ e.0) × (call.name ≡ e.1) × (call.failed ≡ true → calls ≡ []) × Follows calls expected
 
+-- a read that gave the bytes
+abbrev pub read_of : List ℕ → ShelfCall
+read_of name = record { kind = Read; name = name; failed = false }
+
 -- the calls that were added
 pub record AddsCalls (expected : List (CallKind × List ℕ)) (old new : ShelfState) : Type 0 where
-  pub made : List Call
+  pub made : List ShelfCall
   pub added : new.calls ≡ old.calls ++ made
   pub follows : Follows made expected
 
@@ -92,48 +97,50 @@ pub record WritesWhole (c : Command) (bytes : List ℕ) (tells : Bool) (out out'
   pub whole : Adds tells out out' output
 
 -- how the printing of a command's output ends
-abbrev pub Printed : Command → List ℕ → Ending → Bool → SinkState → SinkState → Type 0
+abbrev pub Printed : Command → List ℕ → Exit → Bool → SinkState → SinkState → Type 0
 Printed c bytes Done tells out out' = WritesWhole c bytes tells out out'
 Printed c bytes (Refused refusal) tells out out' = Refuses c bytes refusal × (out' ≡ out)
 Printed c bytes Unread tells out out' = ⊥
 Printed c bytes Unwritten tells out out' = WritesPart c bytes tells out out' × Rose out.faults out'.faults
 Printed c bytes NoMemory tells out out' = out' ≡ out
 
--- what an ending says where the script's bytes are these
-pub record Answers (c : Command) (bytes : List ℕ) (ending : Ending) (tells : Bool) (out out' : SinkState) : Type 0 where
+-- what an exit says where the script's bytes are these
+pub record Answers (c : Command) (bytes : List ℕ) (exit : Exit) (tells : Bool) (out out' : SinkState) : Type 0 where
   -- the command's output, whole
-  pub done : ending ≡ Done → WritesWhole c bytes tells out out'
+  pub done : exit ≡ Done → WritesWhole c bytes tells out out'
   -- refused exactly where there is a cause, but for want of memory, and for that cause
-  pub refused : (refusal : ScriptRefusal) → ending ≡ Refused refusal → Refuses c bytes refusal
-  pub causes : (refusal : ScriptRefusal) → Refuses c bytes refusal → (ending ≡ Refused refusal) ⊎ (ending ≡ NoMemory)
+  pub refused : (refusal : ScriptRefusal) → exit ≡ Refused refusal → Refuses c bytes refusal
+  pub causes : (refusal : ScriptRefusal) → Refuses c bytes refusal → (exit ≡ Refused refusal) ⊎ (exit ≡ NoMemory)
   -- a fault of out
-  pub unwritten : ending ≡ Unwritten → Rose out.faults out'.faults
+  pub unwritten : exit ≡ Unwritten → Rose out.faults out'.faults
   -- for reads alone
-  pub not_unread : ending ≢ Unread
+  pub not_unread : exit ≢ Unread
   -- nothing but a part of the output is ever written
   pub part : (out' ≡ out) ⊎ WritesPart c bytes tells out out'
 
 -- a command on the script of this name
-pub record Course (c : Command) (name : List ℕ) (ending : Ending) (shelf_tells out_tells : Bool) (shelf shelf' : ShelfState) (out out' : SinkState) : Type 0 where
+pub record Course (c : Command) (name : List ℕ) (exit : Exit) (shelf_tells out_tells : Bool) (shelf shelf' : ShelfState) (out out' : SinkState) : Type 0 where
   -- the script's bytes, where the read gave them
   pub given : Option (List ℕ)
-  pub gave : IfSome given (Gave shelf_tells shelf name)
-  pub answers : IfSome given (λ bytes. Answers c bytes ending out_tells out out')
+  pub gave : IfSome given (WasRead shelf_tells shelf name)
+  pub answers : IfSome given (λ bytes. Answers c bytes exit out_tells out out')
   -- a read that failed, or want of memory
-  pub not_given : given ≡ None → (ending ≡ Unread) ⊎ (ending ≡ NoMemory)
+  pub not_given : given ≡ None → (exit ≡ Unread) ⊎ (exit ≡ NoMemory)
   pub nothing : given ≡ None → out' ≡ out
   -- unread only where the count rose in the read, and else it stays
-  pub unread : ending ≡ Unread → Rose shelf.faults shelf'.faults
-  pub kept : ending ≢ Unread → shelf'.faults ≡ shelf.faults
-  -- the one read
+  pub unread : exit ≡ Unread → Rose shelf.faults shelf'.faults
+  pub kept : exit ≢ Unread → shelf'.faults ≡ shelf.faults
+  -- no call but the one read
   pub calls : IsTrue shelf_tells → AddsCalls ((Read, name) ∷ []) shelf shelf'
+  -- that read and no other, where it gave the bytes
+  pub one_read : IfSome given (λ bytes. IsTrue shelf_tells → shelf'.calls ≡ shelf.calls ++ read_of name ∷ [])
 
--- an order is carried out: the status and the line are those of an ending, 0, 3, 6, 7 or 12
+-- an order is carried out: the status and the line are those of an exit: 0, 3, 6, 7 or 12
 pub record Carries (m : Meaning) (status : ℕ) (shelf_tells out_tells err_tells : Bool) (shelf shelf' : ShelfState) (out out' err err' : SinkState) : Type 0 where
-  pub ending : Ending
-  pub status_is : status ≡ status_of ending
-  pub line : AddsUnlessFailed err_tells err err' (line_of m.1 ending)
-  pub course : Course m.0 m.1 ending shelf_tells out_tells shelf shelf' out out'
+  pub exit : Exit
+  pub status_is : status ≡ status_of exit
+  pub line : AddsUnlessFailed err_tells err err' (line_of m.1 exit)
+  pub course : Course m.0 m.1 exit shelf_tells out_tells shelf shelf' out out'
 
 -- words that mean nothing
 pub record NoReading (status : ℕ) (tells : Bool) (shelf shelf' : ShelfState) (out out' err err' : SinkState) : Type 0 where

@@ -4,5 +4,5 @@ pub mod Scripts
 pub mod Output
 pub mod Words
 pub mod Orders
-pub mod Endings
+pub mod Exits
 pub mod Course

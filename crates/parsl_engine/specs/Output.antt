@@ -3,6 +3,7 @@ use Rattle.std.specs.Prelude.{◌≡◌, ℕ, ◌++◌, ◌∷◌, [], Bool, tru
 use Rattle.std.specs.List.{list_all}
 use Rattle.std.specs.declared.result.Result.{Result}
 use Rattle.std.specs.declared.alloc.Global.{Global}
+use Rattle.std.specs.declared.alloc.AllocError.{AllocError}
 use Rattle.flow_base.specs.declared.outcome.Evaluation.{Evaluation}
 use Rattle.flow_base.specs.declared.outcome.Outcome.{Outcome}
 use Rattle.flow_base.specs.declared.outcome.Outcome.TheVariants as o
@@ -19,7 +20,8 @@ use Rattle.parsl_engine.specs.declared.script.ScriptRefusal.{ScriptRefusal}
 use Rattle.parsl_engine.specs.declared.script.ScriptRefusal.TheVariants.{NotYet}
 use Rattle.parsl_engine.specs.declared.script.ScriptFault.{ScriptFault}
 use Rattle.parsl_engine.specs.declared.script.ScriptFault.TheVariants.{Refused, NoMemory}
-use Rattle.parsl_engine.specs.declared.run.PartEnd.TheVariants.{Ended}
+use Rattle.parsl_engine.specs.declared.run.PartEnd.{PartEnd}
+use Rattle.parsl_engine.specs.declared.run.PartEnd.TheVariants.{Ended, Refused as run_refused}
 use Rattle.parsl_engine.specs.declared.run.RunEnd.{RunEnd}
 use Rattle.parsl_engine.specs.Runs.{IsWholeLog}
 use Rattle.parsl_engine.specs.Scripts.{IsCheckedText, IsFaulty}
@@ -83,26 +85,18 @@ is_value (o.Failed exception) = false
 abbrev pub has_value : TaskEnd → Bool
 has_value task = is_value task.outcome
 
--- a run that ended, with this evaluation
-pub record Gave (run : RunEnd) (e : Evaluation) : Type 0 where
-  pub ended : run.end ≡ Ended
-  pub gave : run.evaluation ≡ Ok e
+-- the report of an evaluation and a log where each task has a value; not yet where one failed
+abbrev pub ReportsOn : Evaluation → List Entry → Result (Vec ℕ Global) ScriptFault → Type 0
+ReportsOn e log (Ok text) = (list_all has_value e.tasks ≡ true) × (text.items ≡ report_text e log)
+ReportsOn e log (Err (Refused NotYet)) = list_all has_value e.tasks ≡ false
+ReportsOn e log (Err (Refused refusal)) = ⊥
+ReportsOn e log (Err NoMemory) = Unit {0}
 
--- the whole report of a run in which each task has a value
-pub record ReportsRun (run : RunEnd) (text : List ℕ) : Type 0 where
-  pub evaluation : Evaluation
-  pub gave : Gave run evaluation
-  pub values : list_all has_value evaluation.tasks ≡ true
-  pub is : text ≡ report_text evaluation run.history
-
--- a task of the run failed
-pub record HasFailed (run : RunEnd) : Type 0 where
-  pub evaluation : Evaluation
-  pub gave : Gave run evaluation
-  pub failed : list_all has_value evaluation.tasks ≡ false
+-- the report of a run that ended; where memory was refused to the run, it is wanting here too
+abbrev pub TellsEnd : PartEnd → Result Evaluation AllocError → List Entry → Result (Vec ℕ Global) ScriptFault → Type 0
+TellsEnd Ended (Ok e) log told = ReportsOn e log told
+TellsEnd Ended (Err fault) log told = told ≡ Err NoMemory
+TellsEnd (run_refused refusal) gave log told = told ≡ Err NoMemory
 
 abbrev pub Tells : RunEnd → Result (Vec ℕ Global) ScriptFault → Type 0
-Tells run (Ok text) = ReportsRun run text.items
-Tells run (Err (Refused NotYet)) = HasFailed run
-Tells run (Err (Refused refusal)) = ⊥
-Tells run (Err NoMemory) = Unit {0}
+Tells run told = TellsEnd run.end run.evaluation run.history told

@@ -2,6 +2,7 @@
 use Rattle.std.specs.Prelude.{ℕ, List, Ok, Err}
 use Rattle.std.specs.declared.result.Result.{Result}
 use Rattle.script_tree.specs.declared.checked.Checked.{Checked}
+use Rattle.script_tree.specs.declared.fault.Rule.{Rule}
 use Rattle.script_tree.specs.Grammar.{PlacedTree}
 use Rattle.script_tree.specs.Rules.{IsWellFormed, IsCheckFault}
 use Rattle.app_script.specs.Parsing.{IsScriptOf, IsRefusal}
@@ -21,7 +22,7 @@ pub record IsOfText (script : PlacedTree) : Type 0 where
   pub is : IsCheckedText bytes script
 
 -- the bytes are a text of a script that breaks a rule; this is the least of its faults
-pub record BreaksRule (bytes : List ℕ) (kind place : ℕ) : Type 0 where
+pub record BreaksRule (bytes : List ℕ) (kind : Rule) (place : ℕ) : Type 0 where
   pub script : PlacedTree
   pub text : IsScriptOf bytes script
   pub fault : IsCheckFault script.tree script.places kind place

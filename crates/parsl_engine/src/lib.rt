@@ -1,12 +1,12 @@
 //! The commands of the program.
 #![tactic(auto)]
 
-pub mod ending;
+pub mod exit;
 mod output;
-pub mod run;
+mod run;
 pub mod script;
 mod top;
-pub mod words;
+mod words;
 
 pub use run::{PartEnd, RunEnd, run_alone, run_attempt};
 pub use script::{ScriptFault, ScriptRefusal};

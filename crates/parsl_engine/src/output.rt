@@ -3,18 +3,19 @@
 ghost use Rattle.std.specs.Prelude.{◌≡◌};
 ghost use Rattle.std.specs.List.{list_all};
 ghost use Rattle.parsl_engine.specs.Scripts.{IsOfText};
-ghost use Rattle.parsl_engine.specs.Output.{Produces, Gives, Tells, has_value as is_valued};
+ghost use Rattle.parsl_engine.specs.Output.{Produces, Gives, Tells, ReportsOn, has_value as is_valued};
 ghost use Rattle.parsl_engine.specs.declared.words.Command.TheVariants.{Run};
 
 use crate::run::{PartEnd, RunEnd, run_alone};
 use crate::script::{ScriptFault, ScriptRefusal, is_small, read_script};
 use crate::words::Command;
-use flow_base::{Outcome, TaskEnd};
-use kernel_core::{Ledger, Opening};
+use event_log::Entry;
+use flow_base::{Evaluation, Outcome, TaskEnd};
+use kernel_core::{Ledger, Opening, Refusal};
 use run_report::report;
 use script_print::print;
 use script_tree::checked::Checked;
-use std::alloc::Global;
+use std::alloc::{AllocError, Global};
 use std::sync::Arc;
 
 /// The output of a command for the script that has this text.
@@ -51,13 +52,23 @@ fn run_output(alloc: Global, script: Checked) -> Result<Vec<u8>, ScriptFault>
 fn whole_report(alloc: Global, run: &RunEnd) -> Result<Vec<u8>, ScriptFault>
     ensures { Tells run.now result }
 {
-    let (PartEnd::Ended, Ok(evaluation)) = (run.end, &run.evaluation) else {
-        return Err(ScriptFault::NoMemory);
-    };
+    match run.end {
+        PartEnd::Ended => match &run.evaluation {
+            Ok(evaluation) => report_of(alloc, evaluation, run.history.as_slice()),
+            Err(AllocError) => Err(ScriptFault::NoMemory),
+        },
+        PartEnd::Refused(Refusal::NoMemory) => Err(ScriptFault::NoMemory),
+    }
+}
+
+// The report of this evaluation and this log, where each task has a value.
+fn report_of(alloc: Global, evaluation: &Evaluation, log: &[Entry]) -> Result<Vec<u8>, ScriptFault>
+    ensures { ReportsOn evaluation.now log.now result }
+{
     if !have_values(evaluation.tasks.as_slice()) {
         return Err(ScriptFault::Refused(ScriptRefusal::NotYet));
     }
-    Ok(report(alloc, evaluation, run.history.as_slice())?)
+    Ok(report(alloc, evaluation, log)?)
 }
 
 fn have_values(tasks: &[TaskEnd]) -> bool

@@ -1,15 +1,14 @@
 //! A whole run on the calling thread.
 
-ghost use Rattle.std.specs.Prelude.{◌≡◌, ◌<◌, true, false, IfOk, OnOk};
+ghost use Rattle.std.specs.Prelude.{◌≡◌, ◌<◌, false, IfOk, OnOk, OnErr};
 ghost use Rattle.std.specs.Arc.{arc_value};
 ghost use Rattle.script_tree.specs.Small.{tree_of};
-ghost use Rattle.flow_laws.specs.Reads.{has_end};
+ghost use Rattle.history_laws.specs.Reads.{has_end};
 ghost use Rattle.kernel_model.specs.Known.{has_ended, status_at};
 ghost use Rattle.kernel_model.specs.Work.{turns_left, NoneRuns};
 ghost use Rattle.kernel_core.specs.Views.{Opens};
-ghost use Rattle.parsl_engine.specs.Runs.{IsRun};
+ghost use Rattle.parsl_engine.specs.Runs.{IsRun, is_ended};
 ghost use Rattle.parsl_engine.specs.Rounds.{Keeps, AttemptTurn};
-ghost use Rattle.parsl_engine.specs.declared.run.PartEnd.TheVariants.{Ended};
 
 use dependency_graph::Monitor;
 use event_log::Entries;
@@ -22,6 +21,7 @@ use std::alloc::{AllocError, Global};
 pub enum PartEnd {
     /// The end stands in its history.
     Ended,
+    /// A turn was refused, or the opening.
     Refused(Refusal),
 }
 
@@ -40,7 +40,7 @@ pub fn run_alone<M: Monitor>(alloc: Global, opening: Opening) -> RunEnd
     ensures { IsRun (arc_value opening.script).tree result }
 {
     match Kernel::<M>::new(alloc, opening, Vec::new(alloc)) {
-        Err(_) => RunEnd {
+        Err(AllocError) => RunEnd {
             end: PartEnd::Refused(Refusal::NoMemory),
             evaluation: Err(AllocError),
             history: Entries::new(alloc),
@@ -68,7 +68,7 @@ fn run_to_end<M: Monitor>(alloc: Global, kernel: &mut Kernel<M>) -> PartEnd
     requires going { has_ended kernel.old ≡ false }
     requires still { NoneRuns kernel.old }
     ensures script { kernel.new.script ≡ kernel.old.script }
-    ensures ended { result ≡ Ended → has_end kernel.new.past ≡ true }
+    ensures ended { has_end kernel.new.past ≡ is_ended result }
 {
     'rounds: while !kernel.ended() {
         if let Err(refusal) = round(alloc, kernel) {
@@ -84,6 +84,7 @@ fn round<M: Monitor>(alloc: Global, kernel: &mut Kernel<M>) -> Result<(), Refusa
     requires still { NoneRuns kernel.old }
     ensures script { kernel.new.script ≡ kernel.old.script }
     ensures keeps { OnOk result (Keeps kernel.old kernel.new) }
+    ensures unended { OnErr result (has_end kernel.new.past ≡ false) }
 {
     kernel.facts();
     if let ScriptTurn::Advanced = kernel.script_turn()? {
@@ -109,14 +110,17 @@ pub fn run_attempt<M: Monitor>(alloc: Global, kernel: &mut Kernel<M>) -> Result<
     requires { has_ended kernel.old ≡ false }
     ensures script { kernel.new.script ≡ kernel.old.script }
     ensures turn { IfOk result (λ did. AttemptTurn kernel.old did kernel.new) }
+    ensures unended { OnErr result (has_end kernel.new.past ≡ false) }
 {
     let Some(job) = kernel.fetch()? else {
         return Ok(false);
     };
     kernel.facts();
-    let Ok(done) = job.run(alloc, kernel.script()) else {
-        return Err(Refusal::NoMemory);
-    };
-    kernel.deliver(done);
-    Ok(true)
+    match job.run(alloc, kernel.script()) {
+        Ok(done) => {
+            kernel.deliver(done);
+            Ok(true)
+        }
+        Err(AllocError) => Err(Refusal::NoMemory),
+    }
 }

@@ -7,16 +7,17 @@ ghost use Rattle.parsl_engine.specs.Scripts.{IsRead};
 use app_check::{CheckFault, check};
 use app_script::parse::{ParseFault, parse};
 use script_tree::checked::Checked;
+use script_tree::fault::{Rule, SyntaxFault};
 use small_scripts::small_script;
 use std::alloc::{AllocError, Global};
 
 /// Why a command does nothing for a script.
 #[derive(Clone, Copy, Debug, PartialEq, Eq)]
 pub enum ScriptRefusal {
-    /// The text is no script: the kind of its fault, and its place in bytes from 0.
-    Parse { kind: u8, place: u32 },
-    /// The script breaks the rule of this kind at this place.
-    Check { kind: u8, place: u32 },
+    /// The text is no script: what is wrong with it, and the place in bytes from 0.
+    Parse { kind: SyntaxFault, place: u32 },
+    /// The script breaks this rule at this place.
+    Check { kind: Rule, place: u32 },
     /// The script can't be run yet.
     NotYet,
 }
@@ -24,7 +25,9 @@ pub enum ScriptRefusal {
 /// Why a command has no output.
 #[derive(Clone, Copy, Debug, PartialEq, Eq)]
 pub enum ScriptFault {
+    /// The script's bytes are the cause.
     Refused(ScriptRefusal),
+    /// An allocation was refused.
     NoMemory,
 }
 

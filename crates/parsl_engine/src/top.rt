@@ -5,7 +5,7 @@ ghost use Rattle.parsl_engine.specs.Course.{Printed, Course, Carries, NoReading}
 ghost use Rattle.parsl_engine.specs.Words.{meaning, is_plain};
 ghost use Rattle.parsl_engine.specs.declared.words.Command.TheVariants.{Run};
 
-use crate::ending::Ending;
+use crate::exit::Exit;
 use crate::output::output;
 use crate::words::{Command, Order, read_words};
 use flow_base::{Shelf, ShelfFault, Sink, Words, write_whole};
@@ -18,26 +18,26 @@ const READ_LIMIT: u64 = 1_048_577;
 const WORDS_REFUSED: u8 = 2;
 
 /// Prints the output of a command for the script that has this text.
-fn print<O: Sink>(alloc: Global, command: Command, bytes: &[u8], out: &mut O) -> Ending
+fn print<O: Sink>(alloc: Global, command: Command, bytes: &[u8], out: &mut O) -> Exit
     ensures { Printed command bytes.now result O.tells (O.state out.old) (O.state out.new) }
 {
     match output(alloc, command, bytes) {
         Ok(text) => match write_whole(out, &text) {
-            Ok(()) => Ending::Done,
-            Err(_) => Ending::Unwritten,
+            Ok(()) => Exit::Done,
+            Err(_) => Exit::Unwritten,
         },
-        Err(fault) => Ending::from(fault),
+        Err(fault) => Exit::from(fault),
     }
 }
 
 /// Reads the script of an order, and prints the command's output for it.
-fn carry_out<S: Shelf, O: Sink>(alloc: Global, order: Order, shelf: &mut S, out: &mut O) -> Ending
+fn carry_out<S: Shelf, O: Sink>(alloc: Global, order: Order, shelf: &mut S, out: &mut O) -> Exit
     ensures { Course order.entry.command order.entry.script.now result S.tells O.tells (S.state shelf.old) (S.state shelf.new) (O.state out.old) (O.state out.new) }
 {
     match shelf.read(order.script.as_str(), READ_LIMIT) {
         Ok(bytes) => print(alloc, order.command, &bytes, out),
-        Err(ShelfFault::Failed) => Ending::Unread,
-        Err(ShelfFault::NoMemory) => Ending::NoMemory,
+        Err(ShelfFault::Failed) => Exit::Unread,
+        Err(ShelfFault::NoMemory) => Exit::NoMemory,
     }
 }
 

@@ -2,7 +2,7 @@
 #![tactic(auto)]
 
 use flow_base::{HostShelf, HostSink, Word, Words, write_whole};
-use parsl_engine::ending::Ending;
+use parsl_engine::exit::Exit;
 use parsl_engine::parsl_top;
 use std::env;
 use std::io::{self, ErrorKind};
@@ -26,7 +26,7 @@ fn main(rt: HostRuntime) -> ExitCode {
         Ok(words) => words,
         Err(error) if error.kind() == ErrorKind::OutOfMemory => {
             let _ = write_whole(&mut err, b"parsl: memory\n");
-            return ExitCode::from(Ending::NoMemory.status());
+            return ExitCode::from(Exit::NoMemory.status());
         }
         // A word that isn't UTF-8: no words mean nothing either.
         Err(_) => Words::new(alloc),

@@ -5,7 +5,7 @@ pub mod lines;
 #[cfg(test)]
 mod tests;
 pub mod value;
-pub mod whole;
+mod whole;
 
 pub use lines::head;
 pub use whole::report;

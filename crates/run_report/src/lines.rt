@@ -89,8 +89,8 @@ fn print_outcome(writer: &mut Writer, outcome: &Outcome) -> Result<(), AllocErro
     }
 }
 
-/// Adds the line of a task.
-pub fn print_task(writer: &mut Writer, task: &TaskEnd) -> Result<(), AllocError>
+// Adds the line of a task.
+fn print_task(writer: &mut Writer, task: &TaskEnd) -> Result<(), AllocError>
     ensures { OnOk result (writer.new ≡ writer.old ++ task_line task.now) }
 {
     writer.add(b"task ")?;
@@ -102,8 +102,8 @@ pub fn print_task(writer: &mut Writer, task: &TaskEnd) -> Result<(), AllocError>
     writer.add(b"\n")
 }
 
-/// Adds the line of a printed value.
-pub fn print_printed(writer: &mut Writer, value: &Value) -> Result<(), AllocError>
+// Adds the line of a printed value.
+fn print_printed(writer: &mut Writer, value: &Value) -> Result<(), AllocError>
     ensures { OnOk result (writer.new ≡ writer.old ++ print_line value.now) }
 {
     writer.add(b"print ")?;
@@ -120,8 +120,8 @@ fn print_raised(writer: &mut Writer, exception: &Exception) -> Result<(), AllocE
     writer.add(b"\n")
 }
 
-/// Adds the line of how main ended.
-pub fn print_ending(writer: &mut Writer, main: &Ending) -> Result<(), AllocError>
+// Adds the line of how main ended.
+fn print_ending(writer: &mut Writer, main: &Ending) -> Result<(), AllocError>
     ensures { OnOk result (writer.new ≡ writer.old ++ ending_line main.now) }
 {
     match main {
@@ -152,7 +152,7 @@ fn print_tasks(writer: &mut Writer, tasks: &[TaskEnd]) -> Result<(), AllocError>
 }
 
 /// Adds the report before its log: a line for each printed value and each task, and how main ended.
-pub fn print_head(writer: &mut Writer, evaluation: &Evaluation) -> Result<(), AllocError>
+pub(crate) fn print_head(writer: &mut Writer, evaluation: &Evaluation) -> Result<(), AllocError>
     ensures { OnOk result (writer.new ≡ writer.old ++ head_text evaluation.now) }
 {
     print_all_printed(writer, evaluation.printed.as_slice())?;

@@ -3,6 +3,7 @@
 ghost use Rattle.std.specs.Prelude.{◌≡◌, ◌++◌, ◌∷◌, [], IfOk, OnOk, codes, flat_map};
 ghost use Rattle.script_tree.specs.Canonical as canonical;
 
+use crate::indent::Indent;
 use crate::parts::{write_number, write_parameters};
 use crate::statement::write_block;
 use script_tree::tree::{AppDef, Block};
@@ -41,35 +42,40 @@ fn write_head(writer: &mut Writer, app: &AppDef) -> Result<(), AllocError>
     writer.add(b" ")
 }
 
-/// Adds an app.
+// Adds an app.
 #[tactic(auto, unfolding(script_tree::specs::Canonical::app))]
-pub fn write_app(writer: &mut Writer, app: &AppDef) -> Result<(), AllocError>
+fn write_app(writer: &mut Writer, alloc: Global, app: &AppDef) -> Result<(), AllocError>
     ensures { OnOk result (writer.new ≡ writer.old ++ canonical.app app.now) }
 {
     write_head(writer, app)?;
-    write_block(writer, &app.body, 0)?;
+    write_block(writer, &app.body, &Indent::none(alloc))?;
     writer.add(b"\n")
 }
 
 // A blank line behind each.
-fn write_apps(writer: &mut Writer, apps: &[AppDef]) -> Result<(), AllocError>
+fn write_apps(writer: &mut Writer, alloc: Global, apps: &[AppDef]) -> Result<(), AllocError>
     ensures { OnOk result (writer.new ≡ writer.old ++ flat_map (λ app. canonical.app app ++ 10 ∷ []) apps.now) }
 {
     for app in apps {
-        write_app(writer, app)?;
+        write_app(writer, alloc, app)?;
         writer.add(b"\n")?;
     }
     Ok(())
 }
 
-/// Adds a script.
+// Adds a script.
 #[tactic(auto, unfolding(script_tree::specs::Canonical::canonical))]
-pub fn write_script(writer: &mut Writer, apps: &[AppDef], main: &Block) -> Result<(), AllocError>
+fn write_script(
+    writer: &mut Writer,
+    alloc: Global,
+    apps: &[AppDef],
+    main: &Block,
+) -> Result<(), AllocError>
     ensures { OnOk result (writer.new ≡ writer.old ++ canonical.canonical (apps.now, main.now)) }
 {
-    write_apps(writer, apps)?;
+    write_apps(writer, alloc, apps)?;
     writer.add(b"main ")?;
-    write_block(writer, main, 0)?;
+    write_block(writer, main, &Indent::none(alloc))?;
     writer.add(b"\n")
 }
 
@@ -78,7 +84,7 @@ pub fn print(alloc: Global, apps: &[AppDef], main: &Block) -> Result<Vec<u8>, Al
     ensures { IfOk result (λ text. text.items ≡ canonical.canonical (apps.now, main.now)) }
 {
     let mut writer = Writer::new(alloc);
-    write_script(&mut writer, apps, main)?;
+    write_script(&mut writer, alloc, apps, main)?;
     Ok(writer.into_bytes())
 }
 
@@ -87,6 +93,6 @@ pub fn print_app(alloc: Global, app: &AppDef) -> Result<Vec<u8>, AllocError>
     ensures { IfOk result (λ text. text.items ≡ canonical.app app.now) }
 {
     let mut writer = Writer::new(alloc);
-    write_app(&mut writer, app)?;
+    write_app(&mut writer, alloc, app)?;
     Ok(writer.into_bytes())
 }

@@ -1,10 +1,11 @@
 //! The canonical text of a script.
 #![tactic(auto)]
 
-pub mod definition;
-pub mod expression;
-pub mod parts;
-pub mod statement;
+mod definition;
+mod expression;
+mod indent;
+mod parts;
+mod statement;
 #[cfg(test)]
 mod tests;
 

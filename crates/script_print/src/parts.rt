@@ -93,13 +93,3 @@ pub fn write_sign(writer: &mut Writer, op: Option<UnaryOp>) -> Result<(), AllocE
         Some(UnaryOp::Not) => writer.add(b"not "),
     }
 }
-
-/// Adds the blanks before a line that has so many blocks round it.
-pub fn write_indent(writer: &mut Writer, depth: usize) -> Result<(), AllocError>
-    ensures { OnOk result (writer.new ≡ writer.old ++ canonical.indent depth) }
-{
-    for level in 0..depth {
-        writer.add(b"  ")?;
-    }
-    Ok(())
-}

@@ -5,7 +5,7 @@ use crate::tests::scripts::{cached_app, join_app, looping_app, main_block};
 use crate::tests::trees::{built_in, call, chain, choice, items, literal};
 use crate::{print, print_app};
 use script_tree::tree::{AppDef, Block, Expr};
-use sqlite_items::Items;
+use sqlite_items::Items as ListOf;
 use std::alloc::{AllocError, Global};
 use std::test::Fail;
 use text_writer::Writer;
@@ -72,8 +72,8 @@ fn apps(rt: HostRuntime) -> Result<(), Fail> {
     Ok(())
 }
 
-fn two_apps(alloc: Global) -> Result<Items<AppDef>, AllocError> {
-    let mut apps = Items::new(alloc);
+fn two_apps(alloc: Global) -> Result<ListOf<AppDef>, AllocError> {
+    let mut apps = ListOf::new(alloc);
     apps.push(cached_app(alloc)?)?;
     apps.push(join_app(alloc)?)?;
     Ok(apps)

@@ -5,6 +5,9 @@ use Rattle.script_tree.specs.declared.token.Token.TheVariants as t
 use Rattle.script_tree.specs.declared.token.Symbol.TheVariants as s
 use Rattle.script_tree.specs.declared.tree.Block.{Block}
 use Rattle.script_tree.specs.declared.tree.AppDef.{AppDef}
+use Rattle.script_tree.specs.declared.fault.SyntaxFault.{SyntaxFault}
+use Rattle.script_tree.specs.declared.fault.SyntaxFault.TheVariants.{Unexpected, TooDeep, TooLong}
+use Rattle.script_tree.specs.Faults.{syntax_number}
 use Rattle.script_tree.specs.Spelling.{Tokens, script}
 use Rattle.script_tree.specs.Lexing.{Text, Lexed, lex}
 
@@ -75,22 +78,23 @@ pub record At (l : Lexed) (place : ℕ) (P : Tokens → Token → Type 0) : Type
   pub is : l.tokens ≡ front ++ (place, token) ∷ rest
   pub fact : P (tokens_of front) token
 
--- The kinds of faults: 1 to 3 are those of pieces, 4 Syntax, 5 TooDeep.
-abbrev pub IsSyntaxFault : Text → ℕ → Type 0
-IsSyntaxFault text place =
+-- a token with which no script goes on, or an end of the text where none ends
+abbrev pub IsUnexpected : Text → ℕ → Type 0
+IsUnexpected text place =
     At (lex text) place (λ front token. GoesOn front × (GoesOn (front ++ token ∷ []) → ⊥))
     ⊎ ((place ≡ length text) × ((lex text).fault ≡ None) × GoesOn (tokens_of (lex text).tokens) × (IsScript (tokens_of (lex text).tokens) → ⊥))
 
+-- a bracket that would be one more than may be open
 abbrev pub IsDeepFault : Text → ℕ → Type 0
 IsDeepFault text place = At (lex text) place (λ front token. (nesting front ≡ max_nesting) × (nesting (front ++ token ∷ []) ≡ max_nesting + 1))
 
-abbrev pub Faulty : Text → ℕ → ℕ → Type 0
+abbrev pub Faulty : Text → SyntaxFault → ℕ → Type 0
 Faulty text kind place =
-    ((lex text).fault ≡ Some (place, kind)) ⊎ ((kind ≡ 4) × IsSyntaxFault text place) ⊎ ((kind ≡ 5) × IsDeepFault text place)
+    ((lex text).fault ≡ Some (place, kind)) ⊎ ((kind ≡ Unexpected) × IsUnexpected text place) ⊎ ((kind ≡ TooDeep) × IsDeepFault text place)
 
--- TooLong comes first. Else the fault is the first from the left, and at one place the one of the smaller kind.
-abbrev pub IsFault : Text → ℕ → ℕ → Type 0
+-- TooLong comes first. Else the fault is the first from the left, and at one place the one of the smaller number.
+abbrev pub IsFault : Text → SyntaxFault → ℕ → Type 0
 IsFault text kind place =
-    ((max_text < length text) × (kind ≡ 6) × (place ≡ max_text))
+    ((max_text < length text) × (kind ≡ TooLong) × (place ≡ max_text))
     ⊎ ((length text ≤ max_text) × Faulty text kind place
-    × ((other at : ℕ) → Faulty text other at → (place < at) ⊎ ((place ≡ at) × (kind ≤ other))))
+    × ((other : SyntaxFault) (at : ℕ) → Faulty text other at → (place < at) ⊎ ((place ≡ at) × (syntax_number kind ≤ syntax_number other))))

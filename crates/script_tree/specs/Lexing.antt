@@ -4,10 +4,12 @@ use Rattle.std.specs.List.{prefix_len, list_all}
 use Rattle.std.specs.Char.{is_ascii_digit, is_ascii_alphabetic}
 use Rattle.script_tree.specs.declared.token.Token.{Token}
 use Rattle.script_tree.specs.declared.token.Token.TheVariants as t
-use Rattle.script_tree.specs.declared.token.Word.{Word}
-use Rattle.script_tree.specs.declared.token.Word.TheVariants as w
+use Rattle.script_tree.specs.declared.token.Keyword.{Keyword}
+use Rattle.script_tree.specs.declared.token.Keyword.TheVariants as w
 use Rattle.script_tree.specs.declared.token.Symbol.{Symbol}
 use Rattle.script_tree.specs.declared.token.Symbol.TheVariants as s
+use Rattle.script_tree.specs.declared.fault.SyntaxFault.{SyntaxFault}
+use Rattle.script_tree.specs.declared.fault.SyntaxFault.TheVariants.{WrongByte, WrongToken, WrongNumber}
 use Rattle.script_tree.specs.BuiltIns.{lookup}
 
 abbrev pub Text : Type 0
@@ -30,32 +32,27 @@ is_in_name b = begins_name b || is_ascii_digit b
 
 -- ---- names, numbers and texts
 
-abbrev pub keywords : List (Text × Word)
+abbrev pub keywords : List (Text × Keyword)
 keywords =
     (codes "app", w.App) ∷ (codes "cached", w.Cached) ∷ (codes "join", w.Join) ∷ (codes "main", w.Main) ∷ (codes "outputs", w.Outputs) ∷
     (codes "let", w.Let) ∷ (codes "while", w.While) ∷ (codes "for", w.For) ∷ (codes "in", w.In) ∷ (codes "if", w.If) ∷ (codes "else", w.Else) ∷
     (codes "return", w.Return) ∷ (codes "raise", w.Raise) ∷ (codes "write", w.Write) ∷ (codes "print", w.Print) ∷ (codes "checkpoint", w.Checkpoint) ∷
     (codes "call", w.Call) ∷ (codes "to", w.To) ∷ (codes "and", w.And) ∷ (codes "or", w.Or) ∷ (codes "not", w.Not) ∷ (codes "nothing", w.Nothing) ∷ []
 
-abbrev pub named : Option Word → Text → Token
-named (Some word) run = t.Word word
+abbrev pub named : Option Keyword → Text → Token
+named (Some word) run = t.Keyword word
 named None run = t.Name run
 
--- a piece is a token and how many bytes it takes, or a fault's kind
+-- a piece is a token and how many bytes it takes, or what is wrong there
 abbrev pub Piece : Type 0
-Piece = Result (Token × ℕ) ℕ
+Piece = Result (Token × ℕ) SyntaxFault
 
-abbrev pub byte_fault : ℕ
-byte_fault = 1
-
-abbrev pub token_fault : ℕ
-token_fault = 2
-
-abbrev pub number_fault : ℕ
-number_fault = 3
+-- the most bytes of a name
+abbrev pub max_name : ℕ
+max_name = 64
 
 abbrev pub name_piece : Text → Piece
-name_piece run = if nat_le (length run) 64 then Ok (named (lookup keywords run) run, length run) else Err token_fault
+name_piece run = if nat_le (length run) max_name then Ok (named (lookup keywords run) run, length run) else Err WrongToken
 
 abbrev pub digits_value : Text → ℕ
 digits_value = fold (λ n d. 10 * n + (d - 48)) 0
@@ -66,7 +63,7 @@ is_number [] = false
 is_number (d ∷ ds) = list_all is_ascii_digit (d ∷ ds) && (nat_eq (length (d ∷ ds)) 1 || not (nat_eq d 48)) && nat_lt (digits_value (d ∷ ds)) (2 ^ 63)
 
 abbrev pub number_piece : Text → Piece
-number_piece run = if is_number run then Ok (t.Number (pos (digits_value run)), length run) else Err number_fault
+number_piece run = if is_number run then Ok (t.Number (pos (digits_value run)), length run) else Err WrongNumber
 
 -- what stands behind `\` for each escape
 abbrev pub escaped : ℕ → Option ℕ
@@ -93,7 +90,7 @@ abbrev mutual
 
 abbrev pub text_piece : Option (Text × ℕ) → Piece
 text_piece (Some r) = Ok (t.Text r.0, 1 + r.1)
-text_piece None = Err token_fault
+text_piece None = Err WrongToken
 
 -- ---- symbols, the longest first
 
@@ -109,12 +106,12 @@ begins_with (b ∷ bs) [] = false
 begins_with (b ∷ bs) (c ∷ cs) = nat_eq b c && begins_with bs cs
 
 abbrev pub symbol_piece : List (Text × Symbol) → Text → Piece
-symbol_piece [] text = Err (if begins_with (codes "!") text then token_fault else byte_fault)
+symbol_piece [] text = Err (if begins_with (codes "!") text then WrongToken else WrongByte)
 symbol_piece (e ∷ es) text = if begins_with e.0 text then Ok (t.Symbol e.1, length e.0) else symbol_piece es text
 
 -- the piece at the front of a text that begins with no blank and no comment
 abbrev pub piece : Text → Piece
-piece [] = Err byte_fault
+piece [] = Err WrongByte
 piece (b ∷ bs) =
     if begins_name b then name_piece (take (prefix_len is_in_name (b ∷ bs)) (b ∷ bs))
     else (if is_ascii_digit b then number_piece (take (prefix_len is_in_name (b ∷ bs)) (b ∷ bs))
@@ -125,12 +122,12 @@ piece (b ∷ bs) =
 -- the tokens with their places, up to a fault with its place or the end
 pub record Lexed : Type 0 where
   pub tokens : List (ℕ × Token)
-  pub fault : Option (ℕ × ℕ)
+  pub fault : Option (ℕ × SyntaxFault)
 
 abbrev pub with_token : ℕ → Token → Lexed → Lexed
 with_token at token l = record l { tokens = (at, token) ∷ l.tokens }
 
-abbrev pub stops_at : ℕ → ℕ → Lexed
+abbrev pub stops_at : ℕ → SyntaxFault → Lexed
 stops_at at kind = record { tokens = []; fault = Some (at, kind) }
 
 -- what is left after a piece, where go reads on from a place
@@ -141,7 +138,7 @@ after_piece go at text (Err kind) = stops_at at kind
 -- the end of a comment's line, or the byte that a comment may not hold
 abbrev pub after_comment : (ℕ → Text → Lexed) → ℕ → Text → Lexed
 after_comment go at [] = go at []
-after_comment go at (b ∷ bs) = if nat_eq b 10 then go (at + 1) bs else stops_at at byte_fault
+after_comment go at (b ∷ bs) = if nat_eq b 10 then go (at + 1) bs else stops_at at WrongByte
 
 -- Each turn takes a byte at least, so the length of the text is enough turns.
 abbrev pub lex_from : ℕ → ℕ → Text → Lexed

@@ -1,4 +1,5 @@
 pub mod BuiltIns
+pub mod Faults
 pub mod Folds
 pub mod Spelling
 pub mod Lexing

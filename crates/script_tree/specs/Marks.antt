@@ -21,17 +21,17 @@ pub data Mark : Type 0 where
   Opens : List Name → Mark
   Closes : Mark
   -- a variable is named in its declaration, and is visible behind a token
-  News : Name → Mark
-  Shows : Name → Mark
+  Declares : Name → Mark
+  MakesVisible : Name → Mark
   -- a variable is used or set
   Uses : Name → Mark
   -- a built-in's name, with how many arguments it has
   Applies : Name → ℕ → Mark
   -- `call`, and the app's name with the numbers of arguments and of names
   Calls : Mark
-  Names : Name → ℕ → ℕ → Mark
+  NamesApp : Name → ℕ → ℕ → Mark
   -- `print` or `checkpoint`
-  Acts : Mark
+  MainOnly : Mark
   -- `write`
   Writes : Mark
   -- the `join` of an app, and whether it is cached
@@ -84,7 +84,7 @@ atom_marks (Atom-F.List es) = in_parens (listed es)
 abbrev pub expr_marks : Steps Marks
 expr_marks = record {
   atom = atom_marks;
-  call = λ e. Calls ∷ Names e.app (length e.arguments) (length e.names) ∷ in_parens (listed e.arguments) ++ names_part e.names;
+  call = λ e. Calls ∷ NamesApp e.app (length e.arguments) (length e.names) ∷ in_parens (listed e.arguments) ++ names_part e.names;
   comp = λ e. e.left ++ compared_part e.test;
   conj = λ e. e.first ++ flat_map (λ f. Other ∷ f) e.others;
   expr = λ e. e.first ++ flat_map (λ f. Other ∷ f) e.others;
@@ -109,16 +109,16 @@ else_part None = []
 else_part (Some block) = Other ∷ block []
 
 abbrev pub statement_marks : Statement-F InBlock InBlock → Marks
-statement_marks (Statement-F.Let name e) = Other ∷ News name ∷ Other ∷ expr e ++ Shows name ∷ []
+statement_marks (Statement-F.Let name e) = Other ∷ Declares name ∷ Other ∷ expr e ++ MakesVisible name ∷ []
 statement_marks (Statement-F.Set name e) = Uses name ∷ Other ∷ expr e ++ Other ∷ []
 statement_marks (Statement-F.While e body) = Other ∷ expr e ++ body []
-statement_marks (Statement-F.For name e body) = Other ∷ News name ∷ Other ∷ expr e ++ body (name ∷ [])
+statement_marks (Statement-F.For name e body) = Other ∷ Declares name ∷ Other ∷ expr e ++ body (name ∷ [])
 statement_marks (Statement-F.If e block other) = Other ∷ expr e ++ (block [] ++ else_part other)
 statement_marks (Statement-F.Return e) = Other ∷ expr e ++ Other ∷ []
 statement_marks (Statement-F.Raise e) = Other ∷ expr e ++ Other ∷ []
 statement_marks (Statement-F.Write e text) = Writes ∷ expr e ++ (Other ∷ expr text ++ Other ∷ [])
-statement_marks (Statement-F.Print e) = Acts ∷ expr e ++ Other ∷ []
-statement_marks Statement-F.Checkpoint = Acts ∷ Other ∷ []
+statement_marks (Statement-F.Print e) = MainOnly ∷ expr e ++ Other ∷ []
+statement_marks Statement-F.Checkpoint = MainOnly ∷ Other ∷ []
 statement_marks (Statement-F.Call c) = call c ++ Other ∷ []
 
 abbrev pub block_marks : BlockSteps InBlock

@@ -2,8 +2,8 @@
 use Rattle.std.specs.Prelude.{ℕ, Bool, true, false, List, [], ◌∷◌, ◌++◌, flat_map, Option, Some, None, ℤ}
 use Rattle.script_tree.specs.declared.token.Token.{Token}
 use Rattle.script_tree.specs.declared.token.Token.TheVariants as t
-use Rattle.script_tree.specs.declared.token.Word.{Word}
-use Rattle.script_tree.specs.declared.token.Word.TheVariants as w
+use Rattle.script_tree.specs.declared.token.Keyword.{Keyword}
+use Rattle.script_tree.specs.declared.token.Keyword.TheVariants as w
 use Rattle.script_tree.specs.declared.token.Symbol.{Symbol}
 use Rattle.script_tree.specs.declared.token.Symbol.TheVariants as s
 use Rattle.script_tree.specs.declared.tree.SumOp.{SumOp}
@@ -26,8 +26,8 @@ abbrev pub Tokens : Type 0
 Tokens = List Token
 
 -- these and nothing else
-abbrev pub word : Word → Tokens
-word k = t.Word k ∷ []
+abbrev pub word : Keyword → Tokens
+word k = t.Keyword k ∷ []
 
 abbrev pub symbol : Symbol → Tokens
 symbol k = t.Symbol k ∷ []
@@ -42,7 +42,7 @@ in_parens ts = t.Symbol s.OpenParen ∷ ts ++ symbol s.CloseParen
 
 abbrev pub names_part : List Tokens → Tokens
 names_part [] = []
-names_part (n ∷ ns) = t.Word w.To ∷ in_parens (listed (n ∷ ns))
+names_part (n ∷ ns) = t.Keyword w.To ∷ in_parens (listed (n ∷ ns))
 
 abbrev pub compare_symbol : CompareOp → Symbol
 compare_symbol by.Equal = s.Equal
@@ -83,10 +83,10 @@ atom_tokens (Atom-F.List es) = t.Symbol s.OpenList ∷ listed es ++ symbol s.Clo
 abbrev pub expr_tokens : Steps Tokens
 expr_tokens = record {
   atom = atom_tokens;
-  call = λ e. t.Word w.Call ∷ t.Name e.app ∷ in_parens (listed e.arguments) ++ names_part e.names;
+  call = λ e. t.Keyword w.Call ∷ t.Name e.app ∷ in_parens (listed e.arguments) ++ names_part e.names;
   comp = λ e. e.left ++ compared_part e.test;
-  conj = λ e. e.first ++ flat_map (λ f. t.Word w.And ∷ f) e.others;
-  expr = λ e. e.first ++ flat_map (λ f. t.Word w.Or ∷ f) e.others;
+  conj = λ e. e.first ++ flat_map (λ f. t.Keyword w.And ∷ f) e.others;
+  expr = λ e. e.first ++ flat_map (λ f. t.Keyword w.Or ∷ f) e.others;
   post = λ e. e.atom ++ flat_map (λ f. t.Symbol s.OpenList ∷ f ++ symbol s.CloseList) e.indices;
   sum = λ e. e.first ++ flat_map (λ f. t.Symbol (sum_symbol f.0) ∷ f.1) e.others;
   term = λ e. e.first ++ flat_map (λ f. t.Symbol (term_symbol f.0) ∷ f.1) e.others;
@@ -104,18 +104,18 @@ ended ts = ts ++ symbol s.Semicolon
 
 abbrev pub else_part : Option Tokens → Tokens
 else_part None = []
-else_part (Some block) = t.Word w.Else ∷ block
+else_part (Some block) = t.Keyword w.Else ∷ block
 
 abbrev pub statement_tokens : Statement-F Tokens Tokens → Tokens
-statement_tokens (Statement-F.Let name e) = ended (t.Word w.Let ∷ t.Name name ∷ t.Symbol s.Assign ∷ expr e)
+statement_tokens (Statement-F.Let name e) = ended (t.Keyword w.Let ∷ t.Name name ∷ t.Symbol s.Assign ∷ expr e)
 statement_tokens (Statement-F.Set name e) = ended (t.Name name ∷ t.Symbol s.Assign ∷ expr e)
-statement_tokens (Statement-F.While e body) = t.Word w.While ∷ expr e ++ body
-statement_tokens (Statement-F.For name e body) = t.Word w.For ∷ t.Name name ∷ t.Word w.In ∷ expr e ++ body
-statement_tokens (Statement-F.If e block other) = t.Word w.If ∷ expr e ++ (block ++ else_part other)
-statement_tokens (Statement-F.Return e) = ended (t.Word w.Return ∷ expr e)
-statement_tokens (Statement-F.Raise e) = ended (t.Word w.Raise ∷ expr e)
-statement_tokens (Statement-F.Write e text) = ended (t.Word w.Write ∷ expr e ++ (t.Symbol s.Comma ∷ expr text))
-statement_tokens (Statement-F.Print e) = ended (t.Word w.Print ∷ expr e)
+statement_tokens (Statement-F.While e body) = t.Keyword w.While ∷ expr e ++ body
+statement_tokens (Statement-F.For name e body) = t.Keyword w.For ∷ t.Name name ∷ t.Keyword w.In ∷ expr e ++ body
+statement_tokens (Statement-F.If e block other) = t.Keyword w.If ∷ expr e ++ (block ++ else_part other)
+statement_tokens (Statement-F.Return e) = ended (t.Keyword w.Return ∷ expr e)
+statement_tokens (Statement-F.Raise e) = ended (t.Keyword w.Raise ∷ expr e)
+statement_tokens (Statement-F.Write e text) = ended (t.Keyword w.Write ∷ expr e ++ (t.Symbol s.Comma ∷ expr text))
+statement_tokens (Statement-F.Print e) = ended (t.Keyword w.Print ∷ expr e)
 statement_tokens Statement-F.Checkpoint = ended (word w.Checkpoint)
 statement_tokens (Statement-F.Call c) = ended (call c)
 
@@ -131,7 +131,7 @@ when false ts = []
 
 abbrev pub outputs_part : Option ℤ → Tokens
 outputs_part None = []
-outputs_part (Some n) = t.Word w.Outputs ∷ t.Number n ∷ []
+outputs_part (Some n) = t.Keyword w.Outputs ∷ t.Number n ∷ []
 
 abbrev pub name_tokens : List ℕ → Tokens
 name_tokens name = t.Name name ∷ []
@@ -141,8 +141,8 @@ names_of [] = []
 names_of (n ∷ ns) = name_tokens n ∷ names_of ns
 
 abbrev pub app : AppDef → Tokens
-app a = when a.cached (word w.Cached) ++ (when a.join (word w.Join) ++ (t.Word w.App ∷ t.Name a.name ∷ in_parens (listed (names_of a.parameters)) ++ (outputs_part a.outputs ++ block a.body)))
+app a = when a.cached (word w.Cached) ++ (when a.join (word w.Join) ++ (t.Keyword w.App ∷ t.Name a.name ∷ in_parens (listed (names_of a.parameters)) ++ (outputs_part a.outputs ++ block a.body)))
 
 -- the tokens of a script
 abbrev pub script : List AppDef × Block → Tokens
-script s = flat_map app s.0 ++ (t.Word w.Main ∷ block s.1)
+script s = flat_map app s.0 ++ (t.Keyword w.Main ∷ block s.1)

@@ -38,6 +38,7 @@ impl Checked {
         Checked { script }
     }
 
+    /// The script, which breaks no static rule.
     pub fn script(&self) -> &Script
         ensures script { result.now ≡ self.now }
         ensures right { IsWellFormed self.now.tree }

@@ -4,15 +4,15 @@ ghost use Rattle.std.specs.Prelude.{◌≡◌};
 ghost use Rattle.script_tree.specs.Grammar.{IsSpellable};
 
 use crate::tree::{AppDef, Block};
-use sqlite_items::Items;
+use sqlite_items::Items as ListOf;
 use std::marker::Model;
 
 /// Contracts see a tree, and the place of each of its tokens.
 #[derive(Drop)]
 pub struct Script {
-    apps: Items<AppDef>,
+    apps: ListOf<AppDef>,
     main: Block,
-    places: Items<u32>,
+    places: ListOf<u32>,
 }
 
 impl Model for Script {
@@ -35,7 +35,7 @@ impl Model for Script {
 
 impl Script {
     /// The script of a tree that some text has, with a place for each of its tokens.
-    pub fn of(apps: Items<AppDef>, main: Block, places: Items<u32>) -> Script
+    pub fn of(apps: ListOf<AppDef>, main: Block, places: ListOf<u32>) -> Script
         requires { IsSpellable (apps, main) }
         ensures { result ≡ record { tree = (apps, main); places = places } }
     {
@@ -50,6 +50,7 @@ impl Script {
         self.apps.as_slice()
     }
 
+    /// The body of `main`.
     pub fn main(&self) -> &Block
         ensures { result.now ≡ self.now.tree.1 }
     {

@@ -2,7 +2,7 @@
 //! prints their results.
 
 use crate::tree::Name;
-use sqlite_items::Items;
+use sqlite_items::Items as ListOf;
 
 /// A parameter or a variable, or a number.
 #[derive(Drop)]
@@ -15,18 +15,19 @@ pub enum Operand {
 #[derive(Drop)]
 pub struct SmallApp {
     pub name: Name,
-    pub parameters: Items<Name>,
+    pub parameters: ListOf<Name>,
     pub first: Operand,
-    pub others: Items<Operand>,
+    pub others: ListOf<Operand>,
 }
 
+/// A statement of a small main.
 #[derive(Drop)]
 pub enum SmallStatement {
     /// `let VARIABLE = call APP(ARGUMENTS);`
     Call {
         variable: Name,
         app: Name,
-        arguments: Items<Operand>,
+        arguments: ListOf<Operand>,
     },
     /// `print result(VARIABLE);`
     Print {
@@ -34,8 +35,9 @@ pub enum SmallStatement {
     },
 }
 
+/// A script of small apps and a small main.
 #[derive(Drop)]
 pub struct SmallScript {
-    pub apps: Items<SmallApp>,
-    pub main: Items<SmallStatement>,
+    pub apps: ListOf<SmallApp>,
+    pub main: ListOf<SmallStatement>,
 }

@@ -2,18 +2,19 @@
 use Rattle.std.proofs.Common.{◌≡◌, ℕ, suc, ◌+◌, ◌≤◌, true, List, [], ◌∷◌, length, map, ap, sym, subst, ◌∙◌, arith, Option, None}
 use Rattle.std.proofs.lemmas.List.{length-map}
 use Rattle.script_tree.specs.declared.token.Token.TheVariants as t
-use Rattle.script_tree.specs.declared.token.Word.TheVariants as w
+use Rattle.script_tree.specs.declared.token.Keyword.TheVariants as w
 use Rattle.script_tree.specs.declared.token.Symbol.TheVariants as s
 use Rattle.script_tree.specs.declared.small.Operand.{Operand}
 use Rattle.script_tree.specs.declared.small.SmallApp.{SmallApp}
 use Rattle.script_tree.specs.declared.small.SmallStatement.{SmallStatement}
 use Rattle.script_tree.specs.declared.small.SmallStatement.TheVariants as small
 use Rattle.script_tree.specs.declared.small.SmallScript.{SmallScript}
+use Rattle.script_tree.specs.declared.fault.SyntaxFault.{SyntaxFault}
 use Rattle.script_tree.specs.Lexing.{Text, lex}
 use Rattle.script_tree.specs.Grammar.{Placed, HasTree, max_text}
 use Rattle.script_tree.specs.Rules.{IsWellFormed}
-use Rattle.grammar_machine.proofs.Least.{Ordered}
-use Rattle.grammar_machine.proofs.Places.{lexed_ordered}
+use Rattle.parser_model.proofs.Least.{Ordered}
+use Rattle.parser_model.proofs.Places.{lexed_ordered}
 use Rattle.small_rules.specs.SmallRules.{script_is_right}
 use Rattle.small_rules.proofs.SmallFaults.{right-well_formed}
 use Rattle.script_tree.specs.Small.{tree_of}
@@ -30,7 +31,7 @@ rising-few lo (x ∷ rest) len h = let more = rising-few (x.0 + 1) rest len h.1 
 
 few-tokens : (text : Text) → (lex text).fault ≡ None → length (lex text).tokens ≤ length text
 few-tokens text whole =
-    let h = rising-few 0 (lex text).tokens (length text) (subst (λ (f : Option (ℕ × ℕ)). Ordered 0 (lex text).tokens f (length text)) whole (lexed_ordered text)) in
+    let h = rising-few 0 (lex text).tokens (length text) (subst (λ (f : Option (ℕ × SyntaxFault)). Ordered 0 (lex text).tokens f (length text)) whole (lexed_ordered text)) in
     omega (arith, h)
 
 -- ---- statements among tokens
@@ -69,7 +70,7 @@ apps-few (a ∷ xs) rest = let more = apps-few xs rest in let one = app-few a (e
 
 few-parts : (x : SmallScript) → length x.apps + length x.main ≤ length (spelling.script (tree_of x))
 unfolding script
-few-parts x = let main = statements-few x.main (t.Symbol s.CloseBlock ∷ []) in let all = apps-few x.apps (t.Word w.Main ∷ t.Symbol s.OpenBlock ∷ statements x.main []) in rw (script-spelled x) (omega (arith, main, all))
+few-parts x = let main = statements-few x.main (t.Symbol s.CloseBlock ∷ []) in let all = apps-few x.apps (t.Keyword w.Main ∷ t.Symbol s.OpenBlock ∷ statements x.main []) in rw (script-spelled x) (omega (arith, main, all))
 
 -- ---- what a kernel wants to know
 

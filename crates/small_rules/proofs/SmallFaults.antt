@@ -11,8 +11,11 @@ use Rattle.script_tree.specs.declared.small.SmallStatement.{SmallStatement}
 use Rattle.script_tree.specs.declared.small.SmallStatement.TheVariants as small
 use Rattle.script_tree.specs.declared.small.SmallScript.{SmallScript}
 use Rattle.script_tree.specs.BuiltIns.{built_in_named}
-use Rattle.script_tree.specs.Marks.{Name, Marks, Other, Opens, Closes, Shows, Applies, Takes, Main}
-use Rattle.script_tree.specs.Rules.{State, Plain, OfMain, behind, kind_if, faults_at, faults_from, faults, call_faults, app_named, IsWellFormed, max_count}
+use Rattle.script_tree.specs.Marks.{Name, Marks, Other, Opens, Closes, MakesVisible, Applies, Takes, Main}
+use Rattle.script_tree.specs.declared.body_kind.BodyKind.TheVariants.{Plain, OfMain}
+use Rattle.script_tree.specs.declared.fault.Rule.{Rule}
+use Rattle.script_tree.specs.declared.fault.Rule.TheVariants as rule
+use Rattle.script_tree.specs.Rules.{State, behind, broken_if, faults_at, faults_from, faults, call_faults, app_named, IsWellFormed, max_count}
 use Rattle.script_tree.specs.Small.{tree_of, app_of}
 use Rattle.small_rules.specs.SmallRules.{is_among, are_distinct_from, are_distinct, is_parameter, are_parameters, is_right_alone, is_defined, are_right_behind, apps_are_right, declares, is_declared, is_visible, are_visible, takes_from, takes, is_right, statements_are_right_behind, main_is_right, script_is_right}
 use Rattle.small_rules.proofs.SmallMarks.{operand_mark, closed, closed_more, terms, body, parameters, app, apps, statement_in, statements, script, script-marks}
@@ -55,23 +58,23 @@ all-same : {A : Type 0} (p q : A → Bool) → ((x : A) → p x ≡ q x) → (xs
 all-same p q e [] = refl
 all-same p q e (x ∷ xs) = ap (λ b. b && list_all p xs) (e x) ∙ ap (λ b. q x && b) (all-same p q e xs)
 
-abbrev is_none : List ℕ → Bool
+abbrev is_none : List Rule → Bool
 is_none [] = true
 is_none (k ∷ ks) = false
 
-none-if : (b : Bool) (k : ℕ) → is_none (kind_if b k) ≡ not b
+none-if : (b : Bool) (k : Rule) → is_none (broken_if b k) ≡ not b
 none-if true k = refl
 none-if false k = refl
 
-none-if_not : (b : Bool) (k : ℕ) → is_none (kind_if (not b) k) ≡ b
+none-if_not : (b : Bool) (k : Rule) → is_none (broken_if (not b) k) ≡ b
 none-if_not true k = refl
 none-if_not false k = refl
 
-none-if_two : (a b : Bool) (j k : ℕ) → is_none (kind_if a j ++ kind_if b k) ≡ not a && not b
+none-if_two : (a b : Bool) (j k : Rule) → is_none (broken_if a j ++ broken_if b k) ≡ not a && not b
 none-if_two true b j k = refl
 none-if_two false b j k = none-if b k
 
-none-is : (ks : List ℕ) → is_none ks ≡ true → ks ≡ []
+none-is : (ks : List Rule) → is_none ks ≡ true → ks ≡ []
 none-is [] e = refl
 none-is (k ∷ ks) e = absurd (cc e)
 
@@ -83,11 +86,11 @@ onto (n ∷ ns) names = onto ns (n ∷ names)
 abbrev any : List Name → Name → Bool
 any names n = list_any (bytes_eq n) names
 
-joined-none : {A : Type 0} (f : ℕ → A) (ks : List ℕ) (ys : List A) → map f ks ++ ys ≡ [] → (is_none ks ≡ true) × (ys ≡ [])
+joined-none : {A : Type 0} (f : Rule → A) (ks : List Rule) (ys : List A) → map f ks ++ ys ≡ [] → (is_none ks ≡ true) × (ys ≡ [])
 joined-none f [] ys e = (refl, e)
 joined-none f (k ∷ ks) ys e = absurd (cc e)
 
-none-joined : {A : Type 0} (f : ℕ → A) (ks : List ℕ) (ys : List A) → is_none ks ≡ true → ys ≡ [] → map f ks ++ ys ≡ []
+none-joined : {A : Type 0} (f : Rule → A) (ks : List Rule) (ys : List A) → is_none ks ≡ true → ys ≡ [] → map f ks ++ ys ≡ []
 none-joined f [] ys e is = is
 none-joined f (k ∷ ks) ys e is = absurd (cc e)
 
@@ -197,7 +200,7 @@ module _ (all : List AppDef) where
       ap (λ b. b && ok (behind m s) ms) p.0 ∙ no_faults-ok places (suc k) (behind m s) ms p.1
 
   ok-operand : (s : State) (o : Operand) (ms : Marks) → ok s (operand_mark o ∷ ms) ≡ sees s o && ok s ms
-  ok-operand s (operand.Variable n) ms = ap (λ b. b && ok s ms) (none-if_not (list_any (list_any (bytes_eq n)) s.scopes) 1)
+  ok-operand s (operand.Variable n) ms = ap (λ b. b && ok s ms) (none-if_not (list_any (list_any (bytes_eq n)) s.scopes) rule.UnknownName)
   ok-operand s (operand.Number n) ms = refl
 
   ok-terms : (s : State) (os : List Operand) (rest : Marks) → ok s (terms os rest) ≡ list_all (sees s) os && ok s rest
@@ -216,7 +219,7 @@ module _ (all : List AppDef) where
 
   ok-parameter : (k : ℕ) (names : List Name) (n : Name) (ms : Marks) → ok (plain names) (Takes k n ∷ ms) ≡ (not (nat_eq k max_count) && not (any names n)) && ok (plain (n ∷ names)) ms
   ok-parameter k names n ms =
-      ap (λ b. b && ok (plain (n ∷ names)) ms) (none-if_two (nat_eq k max_count) (any names n || false) 3 7 ∙ ap (λ b. not (nat_eq k max_count) && not b) (or-false (any names n)))
+      ap (λ b. b && ok (plain (n ∷ names)) ms) (none-if_two (nat_eq k max_count) (any names n || false) rule.Arity rule.Repeated ∙ ap (λ b. not (nat_eq k max_count) && not b) (or-false (any names n)))
 
   ok-more_parameters : (k : ℕ) (names ns : List Name) (rest : Marks) → ok (plain names) (closed_more (parameters k ns) rest) ≡ (fits k ns && differ names ns) && ok (plain (onto ns names)) rest
   ok-more_parameters k names [] rest = refl
@@ -244,7 +247,7 @@ module _ (all : List AppDef) where
   abbrev twice : ℕ → Name → Bool
   twice k name = list_any (λ (b : AppDef). bytes_eq b.name name) (take k all)
 
-  none-if_only : (b : Bool) → is_none (kind_if b 7 ++ []) ≡ not b
+  none-if_only : (b : Bool) → is_none (broken_if b rule.Repeated ++ []) ≡ not b
   none-if_only true = refl
   none-if_only false = refl
 
@@ -296,7 +299,7 @@ ok-apps s given (a ∷ xs) all rest e =
 
 -- ---- the statements of main
 
-none-arity : (a : Bool) → is_none (kind_if (not a) 3 ++ []) ≡ a
+none-arity : (a : Bool) → is_none (broken_if (not a) rule.Arity ++ []) ≡ a
 none-arity true = refl
 none-arity false = refl
 
@@ -331,11 +334,11 @@ module _ (xs : List SmallApp) where
       let s : State = in_main names in
       let end : Bool = ok (map app_of xs) (in_main (variable ∷ names)) rest in
       let called : Bool = is_none (call_faults (app_named (map app_of xs) name) (length arguments) 0) in
-      let seen : Bool = ok (map app_of xs) s (closed (map operand_mark arguments) (Shows variable ∷ rest)) in
-      ap (λ b. b && (called && seen)) (none-if (any names variable || false) 7 ∙ ap not (or-false (any names variable) ∙ same variable))
+      let seen : Bool = ok (map app_of xs) s (closed (map operand_mark arguments) (MakesVisible variable ∷ rest)) in
+      ap (λ b. b && (called && seen)) (none-if (any names variable || false) rule.Repeated ∙ ap not (or-false (any names variable) ∙ same variable))
       ∙ (ap (λ b. not (is_declared given variable) && (b && seen)) (none-call xs name (length arguments))
       ∙ (ap (λ b. not (is_declared given variable) && (takes xs name (length arguments) && b))
-      (ok-closed (map app_of xs) s arguments (Shows variable ∷ rest) ∙ ap (λ b. b && end) (all-same (sees s) (is_visible given) (sees-visible names given same) arguments))
+      (ok-closed (map app_of xs) s arguments (MakesVisible variable ∷ rest) ∙ ap (λ b. b && end) (all-same (sees s) (is_visible given) (sees-visible names given same) arguments))
       ∙ regroup_call (not (is_declared given variable)) (takes xs name (length arguments)) (are_visible given arguments) end))
 
   ok-print : (names : List Name) (given : List SmallStatement) (variable : Name) (rest : Marks) → Declared names given
@@ -343,9 +346,9 @@ module _ (xs : List SmallApp) where
   unfolding is_right
   ok-print names given variable rest same =
       let end : Bool = ok (map app_of xs) (in_main names) rest in
-      let used : Bool = is_none (kind_if (not (any names variable || false)) 1) in
+      let used : Bool = is_none (broken_if (not (any names variable || false)) rule.UnknownName) in
       ap (λ b. b && (used && end)) (none-result (map app_of xs) names)
-      ∙ ap (λ b. b && end) (none-if_not (any names variable || false) 1 ∙ (or-false (any names variable) ∙ same variable))
+      ∙ ap (λ b. b && end) (none-if_not (any names variable || false) rule.UnknownName ∙ (or-false (any names variable) ∙ same variable))
 
   declared-call : (names : List Name) (given : List SmallStatement) (variable name : Name) (arguments : List Operand) → Declared names given → Declared (variable ∷ names) (given ++ small.Call variable name arguments ∷ [])
   unfolding is_declared

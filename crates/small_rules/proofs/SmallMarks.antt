@@ -10,7 +10,7 @@ use Rattle.script_tree.specs.declared.small.SmallStatement.{SmallStatement}
 use Rattle.script_tree.specs.declared.small.SmallStatement.TheVariants as small
 use Rattle.script_tree.specs.declared.small.SmallScript.{SmallScript}
 use Rattle.script_tree.specs.Folds.{fold_statement}
-use Rattle.script_tree.specs.Marks.{Name, Mark, Marks, InBlock, Other, Opens, Closes, News, Shows, Uses, Applies, Calls, Names, Acts, Defines, Takes, Main, expr_marks, block_marks, listed, parameters_from, apps_from, expr, block}
+use Rattle.script_tree.specs.Marks.{Name, Mark, Marks, InBlock, Other, Opens, Closes, Declares, MakesVisible, Uses, Applies, Calls, NamesApp, MainOnly, Defines, Takes, Main, expr_marks, block_marks, listed, parameters_from, apps_from, expr, block}
 use Rattle.script_tree.specs.Marks as marks
 use Rattle.script_tree.specs.Small.{sum_expr, call_expr, result_expr, statement_of, app_body, app_of, main_of, tree_of}
 use Rattle.small_rules.proofs.SmallFolds.{whole, atom_term, operand_step, plus_steps, argument_steps, sum_expr-folded, call_expr-folded, result_expr-folded, block-folded, let-folded, print-folded, return-folded}
@@ -50,8 +50,8 @@ apps k (a ∷ others) rest = app k a (apps (suc k) others rest)
 
 abbrev pub statement_in : SmallStatement → Marks → Marks
 statement_in (small.Call variable name arguments) rest =
-    Other ∷ News variable ∷ Other ∷ Calls ∷ Names name (length arguments) 0 ∷ Other ∷ closed (map operand_mark arguments) (Shows variable ∷ rest)
-statement_in (small.Print variable) rest = Acts ∷ Applies (codes "result") 1 ∷ Other ∷ Uses variable ∷ Other ∷ Other ∷ rest
+    Other ∷ Declares variable ∷ Other ∷ Calls ∷ NamesApp name (length arguments) 0 ∷ Other ∷ closed (map operand_mark arguments) (MakesVisible variable ∷ rest)
+statement_in (small.Print variable) rest = MainOnly ∷ Applies (codes "result") 1 ∷ Other ∷ Uses variable ∷ Other ∷ Other ∷ rest
 
 abbrev pub statements : List SmallStatement → Marks → Marks
 statements [] rest = rest
@@ -99,13 +99,13 @@ arguments-length : (os : List Operand) → length (argument_steps expr_marks os)
 arguments-length [] = refl
 arguments-length (o ∷ os) = ap suc (arguments-length os)
 
-call-marks : (name : List ℕ) (os : List Operand) (rest : Marks) → expr (call_expr name os) ++ rest ≡ Calls ∷ Names name (length os) 0 ∷ Other ∷ closed (map operand_mark os) rest
+call-marks : (name : List ℕ) (os : List Operand) (rest : Marks) → expr (call_expr name os) ++ rest ≡ Calls ∷ NamesApp name (length os) 0 ∷ Other ∷ closed (map operand_mark os) rest
 call-marks name os rest =
-    let head : Marks = Calls ∷ Names name (length (argument_steps expr_marks os)) 0 ∷ Other ∷ listed (argument_steps expr_marks os) in
+    let head : Marks = Calls ∷ NamesApp name (length (argument_steps expr_marks os)) 0 ∷ Other ∷ listed (argument_steps expr_marks os) in
     ap (λ zs. zs ++ rest) (call_expr-folded expr_marks name os ∙ (alone-marks ((head ++ Other ∷ []) ++ []) ∙ append-nil (head ++ Other ∷ [])))
     ∙ (append_assoc head (Other ∷ []) rest
-    ∙ (ap (λ n. Calls ∷ Names name n 0 ∷ Other ∷ listed (argument_steps expr_marks os) ++ Other ∷ rest) (arguments-length os)
-    ∙ ap (λ zs. Calls ∷ Names name (length os) 0 ∷ Other ∷ zs) (arguments-marks os rest)))
+    ∙ (ap (λ n. Calls ∷ NamesApp name n 0 ∷ Other ∷ listed (argument_steps expr_marks os) ++ Other ∷ rest) (arguments-length os)
+    ∙ ap (λ zs. Calls ∷ NamesApp name (length os) 0 ∷ Other ∷ zs) (arguments-marks os rest)))
 
 result-marks : (name : List ℕ) (rest : Marks) → expr (result_expr name) ++ rest ≡ Applies (codes "result") 1 ∷ Other ∷ Uses name ∷ Other ∷ rest
 result-marks name rest = ap (λ zs. zs ++ rest) (result_expr-folded expr_marks name)
@@ -115,11 +115,11 @@ result-marks name rest = ap (λ zs. zs ++ rest) (result_expr-folded expr_marks n
 statement-marks : (x : SmallStatement) (rest : Marks) → fold_statement block_marks (statement_of x) [] ++ rest ≡ statement_in x rest
 statement-marks (small.Call variable name arguments) rest =
     ap (λ (f : InBlock). f [] ++ rest) (let-folded block_marks variable (call_expr name arguments))
-    ∙ (append_assoc (Other ∷ News variable ∷ Other ∷ expr (call_expr name arguments)) (Shows variable ∷ []) rest
-    ∙ ap (λ zs. Other ∷ News variable ∷ Other ∷ zs) (call-marks name arguments (Shows variable ∷ rest)))
+    ∙ (append_assoc (Other ∷ Declares variable ∷ Other ∷ expr (call_expr name arguments)) (MakesVisible variable ∷ []) rest
+    ∙ ap (λ zs. Other ∷ Declares variable ∷ Other ∷ zs) (call-marks name arguments (MakesVisible variable ∷ rest)))
 statement-marks (small.Print variable) rest =
     ap (λ (f : InBlock). f [] ++ rest) (print-folded block_marks (result_expr variable))
-    ∙ (append_assoc (Acts ∷ expr (result_expr variable)) (Other ∷ []) rest ∙ ap (λ zs. Acts ∷ zs) (result-marks variable (Other ∷ rest)))
+    ∙ (append_assoc (MainOnly ∷ expr (result_expr variable)) (Other ∷ []) rest ∙ ap (λ zs. MainOnly ∷ zs) (result-marks variable (Other ∷ rest)))
 
 abbrev in_order : List InBlock → Marks
 in_order = flat_map (λ (f : InBlock). f [])

@@ -2,7 +2,7 @@
 use Rattle.std.proofs.Common.{◌≡◌, ℕ, List, [], ◌∷◌, ◌++◌, map, refl, ap, ◌∙◌, sym, append-nil, append_assoc, codes}
 use Rattle.std.specs.List.{flat_map}
 use Rattle.script_tree.specs.declared.token.Token.TheVariants as t
-use Rattle.script_tree.specs.declared.token.Word.TheVariants as w
+use Rattle.script_tree.specs.declared.token.Keyword.TheVariants as w
 use Rattle.script_tree.specs.declared.token.Symbol.TheVariants as s
 use Rattle.script_tree.specs.declared.tree.SumOp.{SumOp}
 use Rattle.script_tree.specs.declared.tree.Statement.TheVariants as statement
@@ -51,11 +51,11 @@ arguments-tokens : (os : List Operand) (rest : Tokens) → listed (argument_step
 arguments-tokens [] rest = refl
 arguments-tokens (o ∷ os) rest = rw (operand-tokens o) (ap (λ zs. operand_token o ∷ zs) (more_arguments-tokens os rest))
 
-pub call-tokens : (name : List ℕ) (os : List Operand) (rest : Tokens) → expr (call_expr name os) ++ rest ≡ t.Word w.Call ∷ t.Name name ∷ t.Symbol s.OpenParen ∷ closed (map operand_token os) rest
+pub call-tokens : (name : List ℕ) (os : List Operand) (rest : Tokens) → expr (call_expr name os) ++ rest ≡ t.Keyword w.Call ∷ t.Name name ∷ t.Symbol s.OpenParen ∷ closed (map operand_token os) rest
 call-tokens name os rest =
-    let head : Tokens = t.Word w.Call ∷ t.Name name ∷ t.Symbol s.OpenParen ∷ listed (argument_steps expr_tokens os) in
+    let head : Tokens = t.Keyword w.Call ∷ t.Name name ∷ t.Symbol s.OpenParen ∷ listed (argument_steps expr_tokens os) in
     ap (λ zs. zs ++ rest) (call_expr-folded expr_tokens name os ∙ (alone-tokens ((head ++ t.Symbol s.CloseParen ∷ []) ++ []) ∙ append-nil (head ++ t.Symbol s.CloseParen ∷ [])))
-    ∙ (append_assoc head (t.Symbol s.CloseParen ∷ []) rest ∙ ap (λ zs. t.Word w.Call ∷ t.Name name ∷ t.Symbol s.OpenParen ∷ zs) (arguments-tokens os rest))
+    ∙ (append_assoc head (t.Symbol s.CloseParen ∷ []) rest ∙ ap (λ zs. t.Keyword w.Call ∷ t.Name name ∷ t.Symbol s.OpenParen ∷ zs) (arguments-tokens os rest))
 
 pub result-tokens : (name : List ℕ) (rest : Tokens) → expr (result_expr name) ++ rest ≡ t.Name (codes "result") ∷ t.Symbol s.OpenParen ∷ t.Name name ∷ t.Symbol s.CloseParen ∷ rest
 result-tokens name rest = ap (λ zs. zs ++ rest) (result_expr-folded expr_tokens name)
@@ -66,11 +66,11 @@ statement-tokens : (x : SmallStatement) (rest : Tokens) → fold_statement block
 unfolding statement
 statement-tokens (small.Call variable name arguments) rest =
     ap (λ zs. zs ++ rest) (let-folded block_tokens variable (call_expr name arguments))
-    ∙ (append_assoc (t.Word w.Let ∷ t.Name variable ∷ t.Symbol s.Assign ∷ expr (call_expr name arguments)) (t.Symbol s.Semicolon ∷ []) rest
-    ∙ ap (λ zs. t.Word w.Let ∷ t.Name variable ∷ t.Symbol s.Assign ∷ zs) (call-tokens name arguments (t.Symbol s.Semicolon ∷ rest)))
+    ∙ (append_assoc (t.Keyword w.Let ∷ t.Name variable ∷ t.Symbol s.Assign ∷ expr (call_expr name arguments)) (t.Symbol s.Semicolon ∷ []) rest
+    ∙ ap (λ zs. t.Keyword w.Let ∷ t.Name variable ∷ t.Symbol s.Assign ∷ zs) (call-tokens name arguments (t.Symbol s.Semicolon ∷ rest)))
 statement-tokens (small.Print variable) rest =
     ap (λ zs. zs ++ rest) (print-folded block_tokens (result_expr variable))
-    ∙ (append_assoc (t.Word w.Print ∷ expr (result_expr variable)) (t.Symbol s.Semicolon ∷ []) rest ∙ ap (λ zs. t.Word w.Print ∷ zs) (result-tokens variable (t.Symbol s.Semicolon ∷ rest)))
+    ∙ (append_assoc (t.Keyword w.Print ∷ expr (result_expr variable)) (t.Symbol s.Semicolon ∷ []) rest ∙ ap (λ zs. t.Keyword w.Print ∷ zs) (result-tokens variable (t.Symbol s.Semicolon ∷ rest)))
 
 statements-tokens : (xs : List SmallStatement) (rest : Tokens) → flat_map (λ ts. ts) (map (fold_statement block_tokens) (map statement_of xs)) ++ rest ≡ each statement xs rest
 statements-tokens [] rest = refl
@@ -86,12 +86,12 @@ main-tokens xs rest =
 body-tokens : (first : Operand) (others : List Operand) (rest : Tokens) → block (app_body first others) ++ rest ≡ body first others rest
 body-tokens first others rest =
     let sum : Tokens = expr (sum_expr first others) in
-    let returned : Tokens = t.Word w.Return ∷ sum ++ t.Symbol s.Semicolon ∷ [] in
+    let returned : Tokens = t.Keyword w.Return ∷ sum ++ t.Symbol s.Semicolon ∷ [] in
     ap (λ zs. zs ++ rest) (block-folded block_tokens (statement.Return (sum_expr first others) ∷ []) ∙ ap (λ (z : Tokens). t.Symbol s.OpenBlock ∷ (z ++ []) ++ t.Symbol s.CloseBlock ∷ []) (return-folded block_tokens (sum_expr first others)))
     ∙ (append_assoc (t.Symbol s.OpenBlock ∷ returned ++ []) (t.Symbol s.CloseBlock ∷ []) rest
     ∙ (ap (λ z. t.Symbol s.OpenBlock ∷ z ++ t.Symbol s.CloseBlock ∷ rest) (append-nil returned)
-    ∙ (ap (λ z. t.Symbol s.OpenBlock ∷ z) (append_assoc (t.Word w.Return ∷ sum) (t.Symbol s.Semicolon ∷ []) (t.Symbol s.CloseBlock ∷ rest))
-    ∙ ap (λ zs. t.Symbol s.OpenBlock ∷ t.Word w.Return ∷ zs) (sum-tokens first others (t.Symbol s.Semicolon ∷ t.Symbol s.CloseBlock ∷ rest)))))
+    ∙ (ap (λ z. t.Symbol s.OpenBlock ∷ z) (append_assoc (t.Keyword w.Return ∷ sum) (t.Symbol s.Semicolon ∷ []) (t.Symbol s.CloseBlock ∷ rest))
+    ∙ ap (λ zs. t.Symbol s.OpenBlock ∷ t.Keyword w.Return ∷ zs) (sum-tokens first others (t.Symbol s.Semicolon ∷ t.Symbol s.CloseBlock ∷ rest)))))
 
 more_names-tokens : (ns : List (List ℕ)) (rest : Tokens) → flat_map (λ f. t.Symbol s.Comma ∷ f) (names_of ns) ++ (t.Symbol s.CloseParen ∷ rest) ≡ closed_more (map t.Name ns) rest
 more_names-tokens [] rest = refl
@@ -104,9 +104,9 @@ names-tokens (n ∷ ns) rest = ap (λ zs. t.Name n ∷ zs) (more_names-tokens ns
 app-tokens : (a : SmallApp) (rest : Tokens) → spelling.app (app_of a) ++ rest ≡ app a rest
 unfolding app app_of
 app-tokens a rest =
-    let head : Tokens = t.Word w.App ∷ t.Name a.name ∷ t.Symbol s.OpenParen ∷ listed (names_of a.parameters) in
+    let head : Tokens = t.Keyword w.App ∷ t.Name a.name ∷ t.Symbol s.OpenParen ∷ listed (names_of a.parameters) in
     let tail : Tokens = block (app_body a.first a.others) in
-    append_assoc (head ++ t.Symbol s.CloseParen ∷ []) tail rest ∙ (append_assoc head (t.Symbol s.CloseParen ∷ []) (tail ++ rest) ∙ ap (λ zs. t.Word w.App ∷ t.Name a.name ∷ t.Symbol s.OpenParen ∷ zs)
+    append_assoc (head ++ t.Symbol s.CloseParen ∷ []) tail rest ∙ (append_assoc head (t.Symbol s.CloseParen ∷ []) (tail ++ rest) ∙ ap (λ zs. t.Keyword w.App ∷ t.Name a.name ∷ t.Symbol s.OpenParen ∷ zs)
     (ap (λ zs. listed (names_of a.parameters) ++ (t.Symbol s.CloseParen ∷ zs)) (body-tokens a.first a.others rest) ∙ names-tokens a.parameters _))
 
 apps-tokens : (xs : List SmallApp) (rest : Tokens) → flat_map spelling.app (map app_of xs) ++ rest ≡ each app xs rest
@@ -117,5 +117,5 @@ apps-tokens (x ∷ xs) rest = append_assoc _ _ rest ∙ (ap (λ zs. spelling.app
 pub script-spelled : (x : SmallScript) → spelling.script (tree_of x) ≡ script x
 unfolding script tree_of
 script-spelled x =
-    apps-tokens x.apps (t.Word w.Main ∷ block (main_of x.main))
-    ∙ ap (λ zs. each app x.apps (t.Word w.Main ∷ zs)) (sym (append-nil _) ∙ main-tokens x.main [])
+    apps-tokens x.apps (t.Keyword w.Main ∷ block (main_of x.main))
+    ∙ ap (λ zs. each app x.apps (t.Keyword w.Main ∷ zs)) (sym (append-nil _) ∙ main-tokens x.main [])

@@ -2,7 +2,7 @@
 use Rattle.std.specs.Prelude.{List, [], ◌∷◌, map, codes}
 use Rattle.script_tree.specs.declared.token.Token.{Token}
 use Rattle.script_tree.specs.declared.token.Token.TheVariants as t
-use Rattle.script_tree.specs.declared.token.Word.TheVariants as w
+use Rattle.script_tree.specs.declared.token.Keyword.TheVariants as w
 use Rattle.script_tree.specs.declared.token.Symbol.TheVariants as s
 use Rattle.script_tree.specs.declared.small.Operand.{Operand}
 use Rattle.script_tree.specs.declared.small.Operand.TheVariants as operand
@@ -30,23 +30,23 @@ terms [] rest = rest
 terms (o ∷ os) rest = t.Symbol s.Plus ∷ operand_token o ∷ terms os rest
 
 abbrev pub body : Operand → List Operand → Tokens → Tokens
-body first others rest = t.Symbol s.OpenBlock ∷ t.Word w.Return ∷ operand_token first ∷ terms others (t.Symbol s.Semicolon ∷ t.Symbol s.CloseBlock ∷ rest)
+body first others rest = t.Symbol s.OpenBlock ∷ t.Keyword w.Return ∷ operand_token first ∷ terms others (t.Symbol s.Semicolon ∷ t.Symbol s.CloseBlock ∷ rest)
 
 unfoldable pub app : SmallApp → Tokens → Tokens
-app a rest = t.Word w.App ∷ t.Name a.name ∷ t.Symbol s.OpenParen ∷ closed (map t.Name a.parameters) (body a.first a.others rest)
+app a rest = t.Keyword w.App ∷ t.Name a.name ∷ t.Symbol s.OpenParen ∷ closed (map t.Name a.parameters) (body a.first a.others rest)
 
 unfoldable pub statement : SmallStatement → Tokens → Tokens
 statement (small.Call variable app arguments) rest =
-    t.Word w.Let ∷ t.Name variable ∷ t.Symbol s.Assign ∷ t.Word w.Call ∷ t.Name app ∷ t.Symbol s.OpenParen ∷ closed (map operand_token arguments) (t.Symbol s.Semicolon ∷ rest)
+    t.Keyword w.Let ∷ t.Name variable ∷ t.Symbol s.Assign ∷ t.Keyword w.Call ∷ t.Name app ∷ t.Symbol s.OpenParen ∷ closed (map operand_token arguments) (t.Symbol s.Semicolon ∷ rest)
 statement (small.Print variable) rest =
-    t.Word w.Print ∷ t.Name (codes "result") ∷ t.Symbol s.OpenParen ∷ t.Name variable ∷ t.Symbol s.CloseParen ∷ t.Symbol s.Semicolon ∷ rest
+    t.Keyword w.Print ∷ t.Name (codes "result") ∷ t.Symbol s.OpenParen ∷ t.Name variable ∷ t.Symbol s.CloseParen ∷ t.Symbol s.Semicolon ∷ rest
 
 abbrev pub each : {A : Type 0} → (A → Tokens → Tokens) → List A → Tokens → Tokens
 each spell [] rest = rest
 each spell (x ∷ xs) rest = spell x (each spell xs rest)
 
 abbrev pub apps : List SmallApp → Tokens → Tokens
-apps xs rest = each app xs (t.Word w.Main ∷ rest)
+apps xs rest = each app xs (t.Keyword w.Main ∷ rest)
 
 abbrev pub statements : List SmallStatement → Tokens → Tokens
 statements xs rest = each statement xs (t.Symbol s.CloseBlock ∷ rest)

@@ -9,14 +9,14 @@ use crate::operand::{added_operands, operand};
 use flow_base::Names;
 use script_tree::small::{Operand, SmallApp};
 use script_tree::tree::{AppDef, Block, Expr, Statement};
-use sqlite_items::Items;
+use sqlite_items::Items as ListOf;
 use std::alloc::{AllocError, Global};
 
 /// A sum of one or more operands.
 #[derive(Drop)]
 pub struct Total {
     first: Operand,
-    others: Items<Operand>,
+    others: ListOf<Operand>,
 }
 
 /// The sum of operands that the expression is.
@@ -49,7 +49,7 @@ fn returned(alloc: Global, body: &Block) -> Result<Option<Total>, AllocError>
 fn copy_names(alloc: Global, names: &Names) -> Result<Names, AllocError>
     ensures { IfOk result (λ copies. copies ≡ names.now) }
 {
-    let mut copies = Items::new(alloc);
+    let mut copies = ListOf::new(alloc);
     for name in names.as_slice() {
         copies.push(name.copy(alloc)?)?;
     }
@@ -76,10 +76,10 @@ fn small_app(alloc: Global, app: &AppDef) -> Result<Option<SmallApp>, AllocError
 }
 
 /// The small apps that the apps are.
-pub fn small_apps(alloc: Global, apps: &[AppDef]) -> Result<Option<Items<SmallApp>>, AllocError>
+pub fn small_apps(alloc: Global, apps: &[AppDef]) -> Result<Option<ListOf<SmallApp>>, AllocError>
     ensures { IfOk result (IsPartOf (map app_of) apps.now) }
 {
-    let mut small = Items::new(alloc);
+    let mut small = ListOf::new(alloc);
     for one in apps {
         match small_app(alloc, one)? {
             Some(app) => small.push(app)?,

@@ -7,7 +7,7 @@ ghost use Rattle.small_scripts.specs.Reading.{IsPartOf};
 use crate::alone::{atom_alone, term_atom};
 use script_tree::small::Operand;
 use script_tree::tree::{Added, Atom, Expr, SumOp};
-use sqlite_items::Items;
+use sqlite_items::Items as ListOf;
 use std::alloc::{AllocError, Global};
 
 /// The variable or number that the atom is.
@@ -32,10 +32,10 @@ fn added_operand(alloc: Global, added: &Added) -> Result<Option<Operand>, AllocE
 }
 
 /// The operands that are added.
-pub fn added_operands(alloc: Global, added: &[Added]) -> Result<Option<Items<Operand>>, AllocError>
+pub fn added_operands(alloc: Global, added: &[Added]) -> Result<Option<ListOf<Operand>>, AllocError>
     ensures { IfOk result (IsPartOf (map plus_operand) added.now) }
 {
-    let mut operands = Items::new(alloc);
+    let mut operands = ListOf::new(alloc);
     for one in added {
         match added_operand(alloc, one)? {
             Some(operand) => operands.push(operand)?,
@@ -56,10 +56,10 @@ fn argument(alloc: Global, expr: &Expr) -> Result<Option<Operand>, AllocError>
 }
 
 /// The operands that the expressions are.
-pub fn arguments(alloc: Global, exprs: &[Expr]) -> Result<Option<Items<Operand>>, AllocError>
+pub fn arguments(alloc: Global, exprs: &[Expr]) -> Result<Option<ListOf<Operand>>, AllocError>
     ensures { IfOk result (IsPartOf (map operand_expr) exprs.now) }
 {
-    let mut operands = Items::new(alloc);
+    let mut operands = ListOf::new(alloc);
     for expr in exprs {
         match argument(alloc, expr)? {
             Some(operand) => operands.push(operand)?,

@@ -9,14 +9,14 @@ use crate::alone::atom_alone;
 use crate::operand::arguments;
 use script_tree::small::{Operand, SmallStatement};
 use script_tree::tree::{Atom, Expr, Name, Statement};
-use sqlite_items::Items;
+use sqlite_items::Items as ListOf;
 use std::alloc::{AllocError, Global};
 
 /// A call of an app with operands.
 #[derive(Drop)]
 pub struct AppCall {
     app: Name,
-    arguments: Items<Operand>,
+    arguments: ListOf<Operand>,
 }
 
 /// The call that the expression is, if it names no outputs.
@@ -81,10 +81,10 @@ fn small_statement(
 pub fn small_statements(
     alloc: Global,
     statements: &[Statement],
-) -> Result<Option<Items<SmallStatement>>, AllocError>
+) -> Result<Option<ListOf<SmallStatement>>, AllocError>
     ensures { IfOk result (IsPartOf (map statement_of) statements.now) }
 {
-    let mut small = Items::new(alloc);
+    let mut small = ListOf::new(alloc);
     for one in statements {
         match small_statement(alloc, one)? {
             Some(statement) => small.push(statement)?,

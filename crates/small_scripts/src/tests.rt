@@ -7,12 +7,12 @@ use script_tree::tree::{
     Added, AppDef, Atom, Block, CallExpr, Comp, Conj, Expr, Name, Post, Statement, Sum, SumOp,
     Term, Unary,
 };
-use sqlite_items::{Boxed, Items};
+use sqlite_items::{Boxed, Items as ListOf};
 use std::alloc::{AllocError, Global};
 use std::test::Fail;
 
-fn one<T: Drop>(alloc: Global, item: T) -> Result<Items<T>, AllocError> {
-    let mut items = Items::new(alloc);
+fn one<T: Drop>(alloc: Global, item: T) -> Result<ListOf<T>, AllocError> {
+    let mut items = ListOf::new(alloc);
     items.push(item)?;
     Ok(items)
 }
@@ -23,28 +23,28 @@ fn term(alloc: Global, atom: Atom) -> Term {
             op: None,
             post: Post {
                 atom,
-                indices: Items::new(alloc),
+                indices: ListOf::new(alloc),
             },
         },
-        others: Items::new(alloc),
+        others: ListOf::new(alloc),
     }
 }
 
-fn sum(alloc: Global, first: Term, others: Items<Added>) -> Expr {
+fn sum(alloc: Global, first: Term, others: ListOf<Added>) -> Expr {
     Expr {
         first: Conj {
             first: Comp {
                 left: Sum { first, others },
                 test: None,
             },
-            others: Items::new(alloc),
+            others: ListOf::new(alloc),
         },
-        others: Items::new(alloc),
+        others: ListOf::new(alloc),
     }
 }
 
 fn alone(alloc: Global, atom: Atom) -> Expr {
-    sum(alloc, term(alloc, atom), Items::new(alloc))
+    sum(alloc, term(alloc, atom), ListOf::new(alloc))
 }
 
 /// `app add(a, b) { return a + b; }`, with another operator or with outputs.
@@ -76,7 +76,7 @@ fn kept_call(alloc: Global) -> Result<Statement, AllocError> {
     let call = CallExpr {
         app: Text::of(alloc, "add")?,
         arguments,
-        names: Items::new(alloc),
+        names: ListOf::new(alloc),
     };
     let call = Atom::Call(Boxed::new(alloc, call)?);
     Ok(Statement::Let(Text::of(alloc, "x")?, alone(alloc, call)))

@@ -1,7 +1,7 @@
 //! What a run keeps of a task: its call, its state, and what its attempts cost.
 #![tactic(auto)]
 
-pub mod record;
+mod record;
 pub mod status;
 #[cfg(test)]
 mod tests;

@@ -133,6 +133,7 @@ impl TaskRecord {
         self.status.may_become(status)
     }
 
+    /// Its state.
     pub fn status(&self) -> Status
         ensures { result ≡ self.now.status }
     {
@@ -153,6 +154,7 @@ impl TaskRecord {
         self.cost
     }
 
+    /// Its path.
     pub fn path(&self) -> &Path
         ensures { result.now ≡ self.now.path }
     {
@@ -166,6 +168,7 @@ impl TaskRecord {
         self.app
     }
 
+    /// The arguments of its call.
     pub fn arguments(&self) -> &Items
         ensures { result.now ≡ self.now.arguments }
     {

@@ -6,7 +6,7 @@ use std::alloc::Global;
 use std::test::Fail;
 
 #[derive(Clone, Copy)]
-enum Step {
+enum Transition {
     Pending,
     Launched,
     Running,
@@ -17,39 +17,39 @@ enum Step {
 }
 
 // Leaves the record as it is where the step isn't allowed.
-fn take(record: &mut TaskRecord, step: Step) {
+fn take(record: &mut TaskRecord, step: Transition) {
     match step {
-        Step::Pending => {
+        Transition::Pending => {
             if record.may_become(Status::Pending) {
                 record.pending();
             }
         }
-        Step::Launched => {
+        Transition::Launched => {
             if record.may_become(Status::Launched) && record.attempts() < u32::MAX {
                 record.launched();
             }
         }
-        Step::Running => {
+        Transition::Running => {
             if record.may_become(Status::Running) {
                 record.running();
             }
         }
-        Step::RunningEnded => {
+        Transition::RunningEnded => {
             if record.may_become(Status::RunningEnded) {
                 record.running_ended();
             }
         }
-        Step::Joining => {
+        Transition::Joining => {
             if record.may_become(Status::Joining) {
                 record.joining();
             }
         }
-        Step::Retryable(cost) => {
+        Transition::Retryable(cost) => {
             if record.may_become(Status::FailRetryable) && cost <= u64::MAX - record.cost() {
                 record.retryable(cost);
             }
         }
-        Step::Finish(status) => {
+        Transition::Finish(status) => {
             if status.is_settled() && record.may_become(status) {
                 record.finish(status);
             }
@@ -57,7 +57,7 @@ fn take(record: &mut TaskRecord, step: Step) {
     }
 }
 
-fn after(alloc: Global, steps: &[Step]) -> TaskRecord {
+fn after(alloc: Global, steps: &[Transition]) -> TaskRecord {
     let mut record = TaskRecord::new(Path::new(alloc), 3, Items::new(alloc), Names::new(alloc));
     for step in steps {
         take(&mut record, *step);
@@ -66,83 +66,109 @@ fn after(alloc: Global, steps: &[Step]) -> TaskRecord {
 }
 
 // Each walk with the state to which it leads, the attempts and the cost.
-const WALKS: [(&[Step], Status, u32, u64); 13] = [
+const WALKS: [(&[Transition], Status, u32, u64); 13] = [
     (&[], Status::Unsched, 0, 0),
-    (&[Step::Pending], Status::Pending, 0, 0),
-    (&[Step::Pending, Step::Launched], Status::Launched, 1, 0),
+    (&[Transition::Pending], Status::Pending, 0, 0),
     (
-        &[Step::Pending, Step::Launched, Step::Running],
+        &[Transition::Pending, Transition::Launched],
+        Status::Launched,
+        1,
+        0,
+    ),
+    (
+        &[
+            Transition::Pending,
+            Transition::Launched,
+            Transition::Running,
+        ],
         Status::Running,
         1,
         0,
     ),
     (
         &[
-            Step::Pending,
-            Step::Launched,
-            Step::Running,
-            Step::RunningEnded,
+            Transition::Pending,
+            Transition::Launched,
+            Transition::Running,
+            Transition::RunningEnded,
         ],
         Status::RunningEnded,
         1,
         0,
     ),
-    (&[Step::Pending, Step::Joining], Status::Joining, 0, 0),
+    (
+        &[Transition::Pending, Transition::Joining],
+        Status::Joining,
+        0,
+        0,
+    ),
     (
         &[
-            Step::Pending,
-            Step::Launched,
-            Step::Running,
-            Step::RunningEnded,
-            Step::Finish(Status::ExecDone),
+            Transition::Pending,
+            Transition::Launched,
+            Transition::Running,
+            Transition::RunningEnded,
+            Transition::Finish(Status::ExecDone),
         ],
         Status::ExecDone,
         1,
         0,
     ),
     (
-        &[Step::Pending, Step::Finish(Status::MemoDone)],
+        &[Transition::Pending, Transition::Finish(Status::MemoDone)],
         Status::MemoDone,
         0,
         0,
     ),
     (
-        &[Step::Pending, Step::Joining, Step::Finish(Status::Failed)],
+        &[
+            Transition::Pending,
+            Transition::Joining,
+            Transition::Finish(Status::Failed),
+        ],
         Status::Failed,
         0,
         0,
     ),
     (
-        &[Step::Pending, Step::Finish(Status::DepFail)],
+        &[Transition::Pending, Transition::Finish(Status::DepFail)],
         Status::DepFail,
         0,
         0,
     ),
     (
-        &[Step::Pending, Step::Launched, Step::Retryable(50)],
+        &[
+            Transition::Pending,
+            Transition::Launched,
+            Transition::Retryable(50),
+        ],
         Status::FailRetryable,
         1,
         50,
     ),
     (
         &[
-            Step::Pending,
-            Step::Launched,
-            Step::Retryable(50),
-            Step::Pending,
-            Step::Launched,
-            Step::Running,
-            Step::RunningEnded,
-            Step::Retryable(100),
-            Step::Pending,
-            Step::Launched,
+            Transition::Pending,
+            Transition::Launched,
+            Transition::Retryable(50),
+            Transition::Pending,
+            Transition::Launched,
+            Transition::Running,
+            Transition::RunningEnded,
+            Transition::Retryable(100),
+            Transition::Pending,
+            Transition::Launched,
         ],
         Status::Launched,
         3,
         150,
     ),
     (
-        &[Step::Pending, Step::Joining, Step::Finish(Status::MemoDone)],
+        &[
+            Transition::Pending,
+            Transition::Joining,
+            Transition::Finish(Status::MemoDone),
+        ],
         Status::Joining,
         0,
         0,

@@ -3,6 +3,6 @@
 
 #[cfg(test)]
 mod tests;
-pub mod writer;
+mod writer;
 
 pub use writer::Writer;

@@ -1,9 +1,10 @@
 //! Walks of main and of a join, want by want.
 
-use app_check::checking::check;
+use app_check::check;
 use app_eval::{Reply, Walker, Want};
 use app_script::parse::parse;
 use flow_base::{Ended, Exception, FileOut, Files, Items, Outcome, Path, Text, Value};
+use flow_meaning::{Answer, Request};
 use run_report::lines::print_exception;
 use run_report::value::print_value;
 use script_tree::checked::Checked;
@@ -55,9 +56,9 @@ fn print_ended(writer: &mut Writer, ended: &Ended) -> Result<(), AllocError> {
     }
 }
 
-fn print_want(writer: &mut Writer, want: &Want) -> Result<(), AllocError> {
-    match want {
-        Want::Call {
+fn print_request(writer: &mut Writer, request: &Request) -> Result<(), AllocError> {
+    match request {
+        Request::Call {
             app,
             arguments,
             names,
@@ -67,19 +68,25 @@ fn print_want(writer: &mut Writer, want: &Want) -> Result<(), AllocError> {
             print_values(writer, arguments.as_slice())?;
             print_names(writer, names.as_slice())
         }
-        Want::WaitValue(future) => {
+        Request::WaitValue(future) => {
             writer.add(b"value ")?;
             print_value(writer, future)
         }
-        Want::WaitName(future) => {
+        Request::WaitName(future) => {
             writer.add(b"name ")?;
             print_value(writer, future)
         }
-        Want::Print(value) => {
+        Request::Print(value) => {
             writer.add(b"print ")?;
             print_value(writer, value)
         }
-        Want::Checkpoint => writer.add(b"checkpoint"),
+        Request::Checkpoint => writer.add(b"checkpoint"),
+    }
+}
+
+fn print_want(writer: &mut Writer, want: &Want) -> Result<(), AllocError> {
+    match want {
+        Want::Asks(request) => print_request(writer, request),
         Want::Ended(ended) => print_ended(writer, ended),
     }
 }
@@ -117,25 +124,34 @@ fn files(alloc: Global) -> Result<Files, AllocError> {
 }
 
 fn ended(value: i64, files: Files) -> Reply {
-    Reply::Outcome(Outcome::Value {
+    Reply::Told(Answer::Outcome(Outcome::Value {
         value: Value::Int(value),
         files,
-    })
+    }))
 }
 
 fn reply(alloc: Global, told: Told) -> Result<Reply, AllocError> {
     match told {
         Told::Begin => Ok(Reply::Begin),
-        Told::Future(number, outputs) => Ok(Reply::Called(future(alloc, number, outputs)?)),
+        Told::Future(number, outputs) => {
+            let future = future(alloc, number, outputs)?;
+            Ok(Reply::Told(Answer::Called(future)))
+        }
         Told::Value(value) => Ok(ended(value, ListOf::new(alloc))),
         Told::Files => Ok(ended(1, files(alloc)?)),
-        Told::Raised => Ok(Reply::Outcome(Outcome::Failed(Exception::ValueError))),
-        Told::Go => Ok(Reply::Go),
+        Told::Raised => {
+            let outcome = Outcome::Failed(Exception::ValueError);
+            Ok(Reply::Told(Answer::Outcome(outcome)))
+        }
+        Told::Go => Ok(Reply::Told(Answer::Go)),
     }
 }
 
-/// The next want after what it is told, as text.
+/// The next want after what it is told, as text; none where it may not be resumed.
 fn next(alloc: Global, walker: &mut Walker, told: Told) -> Result<String, Fail> {
+    if walker.rest() == 0 {
+        return Ok(String::new(alloc));
+    }
     let want = walker.resume(alloc, reply(alloc, told)?)?;
     let mut writer = Writer::new(alloc);
     print_want(&mut writer, &want)?;
@@ -194,6 +210,11 @@ const MAIN_WANTS: [(Told, &str); 14] = [
 fn main_is_walked_want_by_want(rt: HostRuntime) -> Result<(), Fail> {
     let alloc = rt.alloc();
     let script = checked(alloc, MAIN)?;
+    let count = script.script().apps().len();
+    assert_eq!(rt; count, 2);
+    if count != 2 {
+        return Ok(());
+    }
     let mut walker = Walker::main(alloc, &script)?;
     for (told, wanted) in MAIN_WANTS {
         let given = next(alloc, &mut walker, told)?;
@@ -225,6 +246,11 @@ const RAISING_WANTS: [(Told, &str); 5] = [
 fn main_raises_the_exception_of_a_task(rt: HostRuntime) -> Result<(), Fail> {
     let alloc = rt.alloc();
     let script = checked(alloc, RAISING)?;
+    let count = script.script().apps().len();
+    assert_eq!(rt; count, 1);
+    if count != 1 {
+        return Ok(());
+    }
     let mut walker = Walker::main(alloc, &script)?;
     for (told, wanted) in RAISING_WANTS {
         let given = next(alloc, &mut walker, told)?;
@@ -276,5 +302,43 @@ fn a_join_is_walked_call_by_call(rt: HostRuntime) -> Result<(), Fail> {
         let given = next(alloc, &mut walker, told)?;
         assert_eq!(rt; given.as_str(), wanted);
     }
+    Ok(())
+}
+
+const COUNTING: &str = "
+main {
+  let i = 0;
+  while i < 100000 {
+    print i;
+    i = i + 1;
+  }
+}
+";
+
+/// The last of so many more wants, each behind what was printed.
+fn later(alloc: Global, walker: &mut Walker, count: u32) -> Result<String, Fail> {
+    let mut want = String::new(alloc);
+    for _more in 0..count {
+        want = next(alloc, walker, Told::Go)?;
+    }
+    Ok(want)
+}
+
+#[test]
+fn a_walk_has_100000_wants(rt: HostRuntime) -> Result<(), Fail> {
+    let alloc = rt.alloc();
+    let script = checked(alloc, COUNTING)?;
+    let count = script.script().apps().len();
+    assert_eq!(rt; count, 0);
+    if count != 0 {
+        return Ok(());
+    }
+    let mut walker = Walker::main(alloc, &script)?;
+    let first = next(alloc, &mut walker, Told::Begin)?;
+    assert_eq!(rt; first.as_str(), "print 0");
+    let last = later(alloc, &mut walker, 99999)?;
+    assert_eq!(rt; last.as_str(), "print 99999");
+    let end = next(alloc, &mut walker, Told::Go)?;
+    assert_eq!(rt; end.as_str(), "ended nothing");
     Ok(())
 }

@@ -2,6 +2,8 @@ ghost use Rattle.std.specs.Prelude.{◌≤◌, length};
 ghost use Rattle.script_tree.specs.Grammar.{max_text};
 
 use super::{LexFault, Lexer, PlacedToken};
+use crate::parse::ParseFault;
+use script_tree::SyntaxFault;
 use script_tree::token::Token;
 use std::alloc::{AllocError, Global};
 
@@ -10,7 +12,7 @@ const MAX_TEXT: usize = 1_048_576;
 /// Each token as it is named in the tests.
 fn shown(alloc: Global, token: &Token) -> Result<String, AllocError> {
     match token {
-        Token::Word(word) => format!(in alloc; "{word:?}"),
+        Token::Keyword(word) => format!(in alloc; "{word:?}"),
         Token::Symbol(symbol) => format!(in alloc; "{symbol:?}"),
         Token::Name(name) => format!(in alloc; "name {}", name.as_str()),
         Token::Number(value) => format!(in alloc; "number {value}"),
@@ -34,7 +36,7 @@ fn answer(alloc: Global, text: &[u8]) -> Result<String, AllocError>
                 all.push_str(entry.as_str())?;
             }
             Err(LexFault::Refused { kind, place }) => {
-                return format!(in alloc; "fault {kind} at {place}");
+                return format!(in alloc; "fault {} at {place}", kind.number());
             }
             Err(LexFault::NoMemory) => return Err(AllocError),
         }
@@ -128,5 +130,18 @@ fn tokens_and_faults_of_texts(rt: HostRuntime) -> Result<(), AllocError> {
         let got = answer(rt.alloc(), text)?;
         assert_eq!(rt; got.as_str(), want);
     }
+    Ok(())
+}
+
+#[test]
+fn faults_are_shown_by_number_and_place(rt: HostRuntime) -> Result<(), AllocError> {
+    let fault = LexFault::Refused {
+        kind: SyntaxFault::WrongNumber,
+        place: 9,
+    };
+    let shown = format!(in rt.alloc(); "{fault}")?;
+    assert_eq!(rt; shown.as_str(), "fault 3 at byte 9");
+    let shown = format!(in rt.alloc(); "{}", ParseFault::from(fault))?;
+    assert_eq!(rt; shown.as_str(), "parse 3 at 9");
     Ok(())
 }

@@ -3,17 +3,17 @@
 use crate::tests::trees::{alone, built_in, call, items, text, variable};
 use flow_base::Text;
 use script_tree::tree::{AppDef, Atom, Block, CallExpr, Statement};
-use sqlite_items::{Boxed, Items};
+use sqlite_items::{Boxed, Items as ListOf};
 use std::alloc::{AllocError, Global};
 
 fn one(alloc: Global, statement: Statement) -> Result<Block, AllocError> {
-    let mut statements = Items::new(alloc);
+    let mut statements = ListOf::new(alloc);
     statements.push(statement)?;
     Ok(Block { statements })
 }
 
-fn parameter(alloc: Global) -> Result<Items<Text>, AllocError> {
-    let mut parameters = Items::new(alloc);
+fn parameter(alloc: Global) -> Result<ListOf<Text>, AllocError> {
+    let mut parameters = ListOf::new(alloc);
     parameters.push(text(alloc, "a")?)?;
     Ok(parameters)
 }
@@ -40,7 +40,7 @@ fn repeating(alloc: Global) -> Result<Statement, AllocError> {
 }
 
 fn looping_body(alloc: Global) -> Result<Block, AllocError> {
-    let mut statements = Items::new(alloc);
+    let mut statements = ListOf::new(alloc);
     statements.push(repeating(alloc)?)?;
     statements.push(Statement::Return(alone(alloc, Atom::Nothing)))?;
     Ok(Block { statements })
@@ -65,7 +65,7 @@ fn writing(alloc: Global) -> Result<Statement, AllocError> {
 }
 
 fn writing_body(alloc: Global) -> Result<Block, AllocError> {
-    let mut statements = Items::new(alloc);
+    let mut statements = ListOf::new(alloc);
     statements.push(writing(alloc)?)?;
     statements.push(Statement::Checkpoint)?;
     Ok(Block { statements })
@@ -89,10 +89,10 @@ pub fn join_app(alloc: Global) -> Result<AppDef, AllocError> {
         cached: false,
         join: true,
         name: text(alloc, "h")?,
-        parameters: Items::new(alloc),
+        parameters: ListOf::new(alloc),
         outputs: None,
         body: Block {
-            statements: Items::new(alloc),
+            statements: ListOf::new(alloc),
         },
     })
 }
@@ -106,7 +106,7 @@ fn printing(alloc: Global) -> Result<Statement, AllocError> {
 }
 
 fn each_body(alloc: Global) -> Result<Block, AllocError> {
-    let mut statements = Items::new(alloc);
+    let mut statements = ListOf::new(alloc);
     statements.push(setting(alloc)?)?;
     statements.push(printing(alloc)?)?;
     Ok(Block { statements })
@@ -124,14 +124,14 @@ fn giving(alloc: Global) -> Result<Statement, AllocError> {
 fn calling(alloc: Global) -> Result<Statement, AllocError> {
     Ok(Statement::Call(CallExpr {
         app: text(alloc, "h")?,
-        arguments: Items::new(alloc),
-        names: Items::new(alloc),
+        arguments: ListOf::new(alloc),
+        names: ListOf::new(alloc),
     }))
 }
 
 /// A call with names, a loop and a call without names.
 pub fn main_block(alloc: Global) -> Result<Block, AllocError> {
-    let mut statements = Items::new(alloc);
+    let mut statements = ListOf::new(alloc);
     statements.push(giving(alloc)?)?;
     statements.push(each(alloc)?)?;
     statements.push(calling(alloc)?)?;

@@ -5,7 +5,7 @@ use script_tree::tree::{
     Added, Atom, CallExpr, Comp, CompareOp, Compared, Conj, Expr, Factor, Post, Sum, SumOp, Term,
     TermOp, Unary, UnaryOp,
 };
-use sqlite_items::{Boxed, Items};
+use sqlite_items::{Boxed, Items as ListOf};
 use std::alloc::{AllocError, Global};
 
 // Leaves out what no text holds.
@@ -24,7 +24,7 @@ fn unary(alloc: Global, atom: Atom) -> Unary {
         op: None,
         post: Post {
             atom,
-            indices: Items::new(alloc),
+            indices: ListOf::new(alloc),
         },
     }
 }
@@ -32,14 +32,14 @@ fn unary(alloc: Global, atom: Atom) -> Unary {
 fn term(alloc: Global, first: Unary) -> Term {
     Term {
         first,
-        others: Items::new(alloc),
+        others: ListOf::new(alloc),
     }
 }
 
 fn sum(alloc: Global, first: Unary) -> Sum {
     Sum {
         first: term(alloc, first),
-        others: Items::new(alloc),
+        others: ListOf::new(alloc),
     }
 }
 
@@ -53,14 +53,14 @@ fn comp(alloc: Global, first: Unary) -> Comp {
 fn conj(alloc: Global, first: Comp) -> Conj {
     Conj {
         first,
-        others: Items::new(alloc),
+        others: ListOf::new(alloc),
     }
 }
 
 fn expr(alloc: Global, first: Comp) -> Expr {
     Expr {
         first: conj(alloc, first),
-        others: Items::new(alloc),
+        others: ListOf::new(alloc),
     }
 }
 
@@ -130,9 +130,9 @@ pub fn choice(alloc: Global) -> Result<Expr, AllocError> {
 }
 
 fn list(alloc: Global) -> Result<Atom, AllocError> {
-    let mut list = Items::new(alloc);
+    let mut list = ListOf::new(alloc);
     list.push(alone(alloc, Atom::Number(1)))?;
-    list.push(alone(alloc, Atom::List(Items::new(alloc))))?;
+    list.push(alone(alloc, Atom::List(ListOf::new(alloc))))?;
     let paren = Atom::Paren(Boxed::new(alloc, variable(alloc, "a")?)?);
     list.push(alone(alloc, paren))?;
     Ok(Atom::List(list))
@@ -153,7 +153,7 @@ pub fn literal(alloc: Global) -> Result<Expr, AllocError> {
 
 /// `slice(a, 0, 12)`
 pub fn built_in(alloc: Global) -> Result<Expr, AllocError> {
-    let mut arguments = Items::new(alloc);
+    let mut arguments = ListOf::new(alloc);
     arguments.push(variable(alloc, "a")?)?;
     arguments.push(alone(alloc, Atom::Number(0)))?;
     arguments.push(alone(alloc, Atom::Number(12)))?;
@@ -162,9 +162,9 @@ pub fn built_in(alloc: Global) -> Result<Expr, AllocError> {
 
 /// `call f(a) to (b, 7)`
 pub fn call(alloc: Global) -> Result<Expr, AllocError> {
-    let mut arguments = Items::new(alloc);
+    let mut arguments = ListOf::new(alloc);
     arguments.push(variable(alloc, "a")?)?;
-    let mut names = Items::new(alloc);
+    let mut names = ListOf::new(alloc);
     names.push(variable(alloc, "b")?)?;
     names.push(alone(alloc, Atom::Number(7)))?;
     let app = text(alloc, "f")?;

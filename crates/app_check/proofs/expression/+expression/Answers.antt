@@ -6,11 +6,11 @@ use Rattle.app_check.proofs.Equations.{expr_rules}
 use Rattle.app_check.proofs.expression.+expression.Goals as goal
 
 pub see_atom-returns-in-Variable : goal.see_atom-returns-in-Variable
-see_atom-returns-in-Variable t c = variable_seen _ c.in-Variable.name _ _ c.in-Variable.is c.uses.ensures
+see_atom-returns-in-Variable t c = variable_seen _ c.in-Variable.name _ _ c.in-Variable.is c.use_variable.ensures
 
 pub see_atom-returns-in-BuiltIn : goal.see_atom-returns-in-BuiltIn
 see_atom-returns-in-BuiltIn t c =
-    built_in_seen _ c.in-BuiltIn.name c.in-BuiltIn.arguments _ _ _ _ _ c.in-BuiltIn.is c.len.ensures c.as_slice.ensures c.applies.ensures c.see_items.ensures
+    built_in_seen _ c.in-BuiltIn.name c.in-BuiltIn.arguments _ _ _ _ _ c.in-BuiltIn.is c.len.ensures c.as_slice.ensures c.apply_built_in.ensures c.see_items.ensures
 
 pub see_conj-loop-other-preserved : goal.see_conj-loop-other-preserved
 unfolding fold_expr fold_conj fold_comp fold_compared fold_sum fold_term fold_added fold_unary fold_factor fold_post fold_atom fold_call

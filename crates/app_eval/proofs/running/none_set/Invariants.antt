@@ -1,5 +1,5 @@
 use Rattle.std.proofs.Common.{◌≡◌}
-use Rattle.body_code.specs.Meaning as code
+use Rattle.body_program.specs.Meaning as code
 use Rattle.app_eval.proofs.running.none_set.Given as goal
 
 abbrev pub invariant-loop-slot : goal.invariant-loop-slot

@@ -1,5 +1,5 @@
 use Rattle.std.proofs.Common.{◌≡◌, ◌≤◌, length, take}
-use Rattle.body_code.specs.Meaning.{with_arguments}
+use Rattle.body_program.specs.Meaning.{with_arguments}
 use Rattle.app_eval.proofs.running.set_arguments.Given as goal
 
 abbrev pub invariant-arguments : goal.invariant-arguments

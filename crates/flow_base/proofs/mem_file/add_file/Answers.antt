@@ -1,5 +1,5 @@
 use Rattle.std.proofs.Common.{rules}
-use Rattle.flow_base.proofs.Entries.{added_told}
+use Rattle.flow_base.proofs.Files.{added_told}
 use Rattle.flow_base.proofs.mem_file.add_file.Goals as goal
 
 pub returns-clause-ok : goal.returns-clause-ok

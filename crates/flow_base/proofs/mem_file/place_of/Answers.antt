@@ -1,5 +1,5 @@
 use Rattle.std.proofs.Common.{◌∙◌, sym, arith}
-use Rattle.flow_base.proofs.Entries.{first_here, none_before_more}
+use Rattle.flow_base.proofs.Files.{first_here, none_before_more}
 use Rattle.flow_base.proofs.mem_file.place_of.Goals as goal
 
 pub returns-then-has_name-clause-at : goal.returns-then-has_name-clause-at

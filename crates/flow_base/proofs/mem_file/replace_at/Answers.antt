@@ -1,4 +1,4 @@
-use Rattle.flow_base.proofs.Entries.{replaced_told}
+use Rattle.flow_base.proofs.Files.{replaced_told}
 use Rattle.flow_base.proofs.mem_file.replace_at.Goals as goal
 
 pub returns : goal.returns

@@ -12,14 +12,14 @@ pub returns-then-branch : goal.returns-then-branch
 returns-then-branch g c =
     let script = script-waits _ _ _ c.in_ok-script_turn.ensures.answer c.in_default.not-Advanced c.in_ok-script_turn.ensures.after in
     let callback = as-was CallbackTurn _ _ _ _ true c.if-branch.true script c.in_ok-callback_turn.ensures.turn in
-    record { script = callback-script _ _ true callback; keeps = callback-keeps _ _ c.requires.going c.requires.still c.facts.ensures.kept callback }
+    record { script = callback-script _ _ true callback; keeps = callback-keeps _ _ c.requires.going c.requires.still c.facts.ensures.kept callback; unended = tt }
 
 pub returns-then-branch-2 : goal.returns-then-branch-2
 returns-then-branch-2 g c =
     let script = script-waits _ _ _ c.in_ok-script_turn.ensures.answer c.in_default.not-Advanced c.in_ok-script_turn.ensures.after in
     let callback = as-was CallbackTurn _ _ _ _ false c.if-branch.false script c.in_ok-callback_turn.ensures.turn in
     let attempt = as-was AttemptTurn _ _ _ _ true c.if-branch-2.true callback.1 c.in_ok-run_attempt.ensures.turn in
-    record { script = c.in_ok-run_attempt.ensures.script ∙ ap (λ (u : Known). u.script) callback.1; keeps = attempt-keeps _ _ c.requires.going c.requires.still c.facts.ensures.kept attempt }
+    record { script = c.in_ok-run_attempt.ensures.script ∙ ap (λ (u : Known). u.script) callback.1; keeps = attempt-keeps _ _ c.requires.going c.requires.still c.facts.ensures.kept attempt; unended = tt }
 
 pub returns-then-branch-3 : goal.returns-then-branch-3
 returns-then-branch-3 g c =
@@ -27,7 +27,7 @@ returns-then-branch-3 g c =
     let callback = as-was CallbackTurn _ _ _ _ false c.if-branch.false script c.in_ok-callback_turn.ensures.turn in
     let attempt = as-was AttemptTurn _ _ _ _ false c.if-branch-2.false callback.1 c.in_ok-run_attempt.ensures.turn in
     let settle = as-was SettleTurn _ _ _ _ true c.if-branch-3.true attempt.1 c.in_ok-settle_turn.ensures.turn in
-    record { script = settle-script _ _ true settle; keeps = settle-keeps _ _ c.requires.going c.requires.still c.facts.ensures.kept settle }
+    record { script = settle-script _ _ true settle; keeps = settle-keeps _ _ c.requires.going c.requires.still c.facts.ensures.kept settle; unended = tt }
 
 pub unreachable-requires : goal.unreachable-requires
 unreachable-requires g c =

@@ -29,7 +29,7 @@ written old after_if after_then new e b block o other depth is same h k l = rw (
 pub write_statement-returns-in_ok-write_then-in-Some : goal.write_statement-returns-in_ok-write_then-in-Some
 unfolding fold_block fold_statement
 write_statement-returns-in_ok-write_then-in-Some t c =
-    rw (if_else _ _ _ _ _ c.args.depth c.in-If.is c.in-Some.is)
+    rw (if_else _ _ _ _ _ c.args.indent.now c.in-If.is c.in-Some.is)
     (on_ok_weaker _
-    (written _ _ _ _ c.in-If.e _ c.in-If.block _ c.in-Some.other c.args.depth c.get-in-Some.ensures c.get-in-Some-2.ensures c.in_ok-write_if-in-If.ensures c.in_ok-write_then-in-Some.ensures)
+    (written _ _ _ _ c.in-If.e _ c.in-If.block _ c.in-Some.other c.args.indent.now c.get-in-Some.ensures c.get-in-Some-2.ensures c.in_ok-write_if-in-If.ensures c.in_ok-write_then-in-Some.ensures)
     c.write_body-in-Some.ensures)

@@ -1,7 +1,7 @@
 use Rattle.std.proofs.Common.{◌≡◌, drop, map}
 use Rattle.flow_meaning.specs.Act.{all_from}
 use Rattle.flow_meaning.specs.Run.{run}
-use Rattle.body_code.specs.Meaning.{code_value, sums, products, items_at}
+use Rattle.body_program.specs.Meaning.{code_value, sums, products, items_at}
 use Rattle.app_eval.specs.Chains.{operands, values_calc}
 use Rattle.app_eval.specs.Chains as calc
 use Rattle.app_eval.proofs.expression.Scope.+expr.Given as goal

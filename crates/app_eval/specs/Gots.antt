@@ -1,8 +1,0 @@
--- The values that the code's own types stand for.
-use Rattle.flow_base.specs.declared.value.Value.{Value}
-use Rattle.app_eval.specs.declared.got.Source.{Source}
-use Rattle.app_eval.specs.declared.got.Source.TheVariants.{Kept, Made}
-
-abbrev pub value_in : Source → Value
-value_in (Kept value) = value.now
-value_in (Made value) = value

@@ -1,0 +1,136 @@
+-- The laws of a history. Each is a test of one entry against the entries before it, with a table.
+use Rattle.std.specs.Prelude.{◌≡◌, ℕ, suc, ◌+◌, ◌<◌, ◌≤◌, true, false, List, [], ◌∷◌, Option, Some, None, IsSome, option_map, bytes_eq}
+use Rattle.task_record.specs.declared.status.Status.{Status}
+use Rattle.task_record.specs.declared.status.Status.TheVariants as status
+use Rattle.event_log.specs.declared.entry.Entry.{Entry}
+use Rattle.event_log.specs.declared.entry.Entry.TheVariants as entry
+use Rattle.flow_meaning.specs.Inputs.{Path}
+use Rattle.flow_meaning.specs.Operators.{Text}
+use Rattle.history_laws.specs.declared.table.Expected.{Expected}
+use Rattle.history_laws.specs.declared.table.Retries.{Retries}
+use Rattle.history_laws.specs.declared.table.Table.{Table}
+use Rattle.history_laws.specs.Tables.{task_at, calls_in, waits_before}
+use Rattle.history_laws.specs.Reads.{History, is_submitted, submits, settled, launches, Stage, Unlaunched, Waiting, Running, Over, stage, last_try, value_word, costs, has_end}
+
+-- all of these paths have settled
+abbrev pub AllSettled : List Path → History → Type 0
+AllSettled [] b = Unit {0}
+AllSettled (p ∷ ps) b = IsSome (settled p b) × AllSettled ps b
+
+-- a state in which a task has a value
+abbrev pub IsValued : Option Status → Type 0
+IsValued (Some status.ExecDone) = Unit {0}
+IsValued (Some status.MemoDone) = Unit {0}
+IsValued _ = ⊥
+
+-- all of these paths have settled with values
+abbrev pub AllValued : List Path → History → Type 0
+AllValued [] b = Unit {0}
+AllValued (p ∷ ps) b = IsValued (settled p b) × AllValued ps b
+
+-- ---- settling
+
+-- The next call of main is submitted, once all that main waited for before it has settled.
+pub record SubmitStands (z : Table) (b : History) (p : Path) (app : Text) : Type 0 where
+  pub next : p ≡ suc (submits b) ∷ []
+  pub within : submits b < calls_in z.acts
+  pub same_app : option_map (λ t. Expected.app t) (task_at z p) ≡ Some app
+  pub waited : AllSettled (waits_before (submits b) z.acts) b
+
+-- A submitted task is settled once, in the state of its outcome, after all of its inputs.
+pub record SettledStands (z : Table) (b : History) (p : Path) (s : Status) : Type 0 where
+  pub task : Expected
+  pub is : task_at z p ≡ Some task
+  pub submitted : is_submitted p b ≡ true
+  pub once : settled p b ≡ None
+  pub state : s ≡ task.status
+  pub inputs : AllSettled task.inputs b
+
+-- every task is submitted and settled
+pub record IsOver (z : Table) (b : History) : Type 0 where
+  pub submitted : (p : Path) → IsSome (task_at z p) → is_submitted p b ≡ true
+  pub settled : (p : Path) → IsSome (task_at z p) → IsSome (settled p b)
+
+abbrev pub SettlingStands : Table → History → Entry → Type 0
+SettlingStands z b (entry.Submit p app) = SubmitStands z b p app
+SettlingStands z b (entry.Settled p s) = SettledStands z b p s
+SettlingStands z b entry.End = IsOver z b
+SettlingStands z b _ = Unit {0}
+
+-- nothing stands behind the end
+pub record SettlingLaw (z : Table) (b : History) (e : Entry) : Type 0 where
+  pub open_yet : has_end b ≡ false
+  pub stands : SettlingStands z b e
+
+-- ---- launches
+
+-- A submitted, unsettled task that gets its outcome by an attempt is launched once its inputs have values.
+pub record LaunchStands (z : Table) (b : History) (p : Path) : Type 0 where
+  pub task : Expected
+  pub is : task_at z p ≡ Some task
+  pub submitted : is_submitted p b ≡ true
+  pub unsettled : settled p b ≡ None
+  pub inputs : AllValued task.inputs b
+  pub runs : task.runs ≡ true
+
+abbrev pub LaunchLaw : Table → History → Entry → Type 0
+LaunchLaw z b (entry.Launch p n) = LaunchStands z b p
+LaunchLaw z b _ = Unit {0}
+
+-- ---- attempts
+
+-- a further attempt may follow: the last one ended without a value, and the costs are within the limit
+abbrev pub MayFollow : ℕ → ℕ → Stage → Type 0
+MayFollow limit sum Unlaunched = Unit {0}
+MayFollow limit sum Waiting = ⊥
+MayFollow limit sum Running = ⊥
+MayFollow limit sum (Over kind) = (bytes_eq kind value_word ≡ false) × (sum ≤ limit)
+
+pub record AttemptFollows (r : Retries) (b : History) (p : Path) (n : ℕ) : Type 0 where
+  pub number : n ≡ launches p b + 1
+  pub follows : MayFollow r.limit (costs r p b) (last_try p b)
+
+abbrev pub IsOut : Stage → Type 0
+IsOut Waiting = Unit {0}
+IsOut Running = Unit {0}
+IsOut _ = ⊥
+
+-- the last attempt ends, once, as the body does
+pub record AttemptEnds (z : Table) (b : History) (p : Path) (n : ℕ) (kind : Text) : Type 0 where
+  pub task : Expected
+  pub is : task_at z p ≡ Some task
+  pub is_out : IsOut (last_try p b)
+  pub number : n ≡ launches p b
+  pub same_kind : kind ≡ task.kind
+
+-- how the last attempt stands where a task settles that gets its outcome by an attempt
+abbrev pub MaySettle : ℕ → ℕ → Stage → Status → Type 0
+MaySettle limit sum (Over kind) status.ExecDone = bytes_eq kind value_word ≡ true
+MaySettle limit sum _ status.ExecDone = ⊥
+MaySettle limit sum (Over kind) status.Failed = (bytes_eq kind value_word ≡ false) × (limit < sum)
+MaySettle limit sum _ status.Failed = ⊥
+MaySettle limit sum _ _ = Unit {0}
+
+abbrev pub AttemptsSettle : Retries → Option Expected → History → Path → Status → Type 0
+AttemptsSettle r None b p s = Unit {0}
+AttemptsSettle r (Some task) b p s = task.runs ≡ true → MaySettle r.limit (costs r p b) (last_try p b) s
+
+abbrev pub AttemptLaw : Retries → Table → History → Entry → Type 0
+AttemptLaw r z b (entry.Launch p n) = AttemptFollows r b p n
+AttemptLaw r z b (entry.Ended p n manager kind) = AttemptEnds z b p n kind
+AttemptLaw r z b (entry.Settled p s) = AttemptsSettle r (task_at z p) b p s
+AttemptLaw r z b _ = Unit {0}
+
+-- ---- the one manager
+
+-- the last attempt, at the manager
+pub record AtManager (b : History) (p : Path) (n manager : ℕ) (there : Stage) : Type 0 where
+  pub stands : stage p b ≡ there
+  pub number : n ≡ launches p b
+  pub first : manager ≡ 1
+
+-- a launched attempt is started, and a started one ends
+abbrev pub ManagerLaw : History → Entry → Type 0
+ManagerLaw b (entry.Start p n manager) = AtManager b p n manager Waiting
+ManagerLaw b (entry.Ended p n manager kind) = AtManager b p n manager Running
+ManagerLaw b _ = Unit {0}

@@ -1,0 +1,52 @@
+//! What the laws take from the sequential evaluation of a script, and from the settings.
+
+use flow_base::{Path, Paths, Text};
+use sqlite_items::Items as ListOf;
+use task_record::Status;
+
+/// What the evaluation says of a task.
+#[derive(Drop)]
+pub struct Expected {
+    pub path: Path,
+    /// The name of its app.
+    pub app: Text,
+    /// The paths that it waits for.
+    pub inputs: Paths,
+    /// Whether it gets its outcome by an attempt.
+    pub runs: bool,
+    /// How its body ends: the word `value`, or the name of its exception.
+    pub kind: Text,
+    /// The state in which it settles.
+    pub status: Status,
+}
+
+/// An act of main that the laws look at.
+#[derive(Drop)]
+pub enum MainEvent {
+    /// Its next call.
+    Call,
+    /// It waits for the task of this path.
+    Wait(Path),
+}
+
+/// The tasks of an evaluation, those of main and those of each join, and main's acts in order.
+#[derive(Drop)]
+pub struct Table {
+    pub tasks: ListOf<Expected>,
+    pub acts: ListOf<MainEvent>,
+}
+
+/// What an attempt costs, in hundredths of a retry, that ends with the exception of this name.
+#[derive(Drop)]
+pub struct RetryCost {
+    pub name: Text,
+    pub cost: u32,
+}
+
+/// The costs of attempts, 100 for a name that isn't here, and the greatest sum of costs with which a
+/// task is launched again.
+#[derive(Drop)]
+pub struct Retries {
+    pub costs: ListOf<RetryCost>,
+    pub limit: u32,
+}

@@ -1,0 +1,438 @@
+//! Verdicts on logs, each made from a legal one.
+
+use crate::verdict::verdict;
+use event_log::{Entries, Entry};
+use flow_base::{Path, Paths, Text};
+use history_laws::{Breach, Expected, Law, MainEvent, Retries, RetryCost, Table};
+use sqlite_items::Items as ListOf;
+use std::alloc::{AllocError, Global};
+use std::test::Fail;
+use task_record::Status;
+
+// A word of an app or of how an attempt ended.
+#[derive(Clone, Copy)]
+enum EntryKind {
+    Add,
+    Value,
+    ZeroDivisionError,
+}
+
+// An entry, with numbers for the task, the attempt and the manager.
+#[derive(Clone, Copy)]
+enum Line {
+    Submit(u32, EntryKind),
+    Launch(u32, u32),
+    Start(u32, u32, u32),
+    Ended(u32, u32, u32, EntryKind),
+    Settled(u32, Status),
+    End,
+}
+
+fn text(alloc: Global, word: EntryKind) -> Result<Text, AllocError> {
+    match word {
+        EntryKind::Add => Text::of(alloc, "add"),
+        EntryKind::Value => Text::of(alloc, "value"),
+        EntryKind::ZeroDivisionError => Text::of(alloc, "ZeroDivisionError"),
+    }
+}
+
+fn path(alloc: Global, task: u32) -> Result<Path, AllocError> {
+    let mut path = Path::new(alloc);
+    path.push(task)?;
+    Ok(path)
+}
+
+fn entry(alloc: Global, line: Line) -> Result<Entry, AllocError> {
+    match line {
+        Line::Submit(task, app) => Ok(Entry::Submit {
+            path: path(alloc, task)?,
+            app: text(alloc, app)?,
+        }),
+        Line::Launch(task, attempt) => Ok(Entry::Launch {
+            path: path(alloc, task)?,
+            attempt,
+        }),
+        Line::Start(task, attempt, manager) => Ok(Entry::Start {
+            path: path(alloc, task)?,
+            attempt,
+            manager,
+        }),
+        Line::Ended(task, attempt, manager, ended) => Ok(Entry::Ended {
+            path: path(alloc, task)?,
+            attempt,
+            manager,
+            ended: text(alloc, ended)?,
+        }),
+        Line::Settled(task, status) => Ok(Entry::Settled {
+            path: path(alloc, task)?,
+            status,
+        }),
+        Line::End => Ok(Entry::End),
+    }
+}
+
+fn add_all(alloc: Global, entries: &mut Entries, lines: &[Line]) -> Result<(), AllocError> {
+    for line in lines {
+        entries.push(entry(alloc, *line)?)?;
+    }
+    Ok(())
+}
+
+// A task of the app `add`, by its row: its path, its input where it has one, whether it runs, how its
+// body ends, and its state.
+#[derive(Clone, Copy)]
+struct Row {
+    task: u32,
+    input: Option<u32>,
+    runs: bool,
+    kind: EntryKind,
+    status: Status,
+}
+
+fn inputs(alloc: Global, input: Option<u32>) -> Result<Paths, AllocError> {
+    let mut inputs = Paths::new(alloc);
+    if let Some(task) = input {
+        inputs.push(path(alloc, task)?)?;
+    }
+    Ok(inputs)
+}
+
+fn expected(alloc: Global, row: Row) -> Result<Expected, AllocError> {
+    Ok(Expected {
+        path: path(alloc, row.task)?,
+        app: text(alloc, EntryKind::Add)?,
+        inputs: inputs(alloc, row.input)?,
+        runs: row.runs,
+        kind: text(alloc, row.kind)?,
+        status: row.status,
+    })
+}
+
+// Main's acts: a call, or the task that it waits for.
+fn acts(alloc: Global, main: &[Option<u32>]) -> Result<ListOf<MainEvent>, AllocError> {
+    let mut acts = ListOf::new(alloc);
+    for waited in main {
+        acts.push(match waited {
+            Some(task) => MainEvent::Wait(path(alloc, *task)?),
+            None => MainEvent::Call,
+        })?;
+    }
+    Ok(acts)
+}
+
+fn table(alloc: Global, rows: &[Row], main: &[Option<u32>]) -> Result<Table, AllocError> {
+    let mut tasks = ListOf::new(alloc);
+    for row in rows {
+        tasks.push(expected(alloc, *row)?)?;
+    }
+    Ok(Table {
+        tasks,
+        acts: acts(alloc, main)?,
+    })
+}
+
+// The costs of a division by 0 where it is given, and the limit.
+fn retries(alloc: Global, cost: Option<u32>, limit: u32) -> Result<Retries, AllocError> {
+    let mut costs = ListOf::new(alloc);
+    if let Some(cost) = cost {
+        costs.push(RetryCost {
+            name: text(alloc, EntryKind::ZeroDivisionError)?,
+            cost,
+        })?;
+    }
+    Ok(Retries { costs, limit })
+}
+
+// app add(a, b) { return a + b; } main { let x = call add(1, 2); let y = call add(x, 10); print result(y); }
+const ROWS: [Row; 2] = [
+    Row {
+        task: 1,
+        input: None,
+        runs: true,
+        kind: EntryKind::Value,
+        status: Status::ExecDone,
+    },
+    Row {
+        task: 2,
+        input: Some(1),
+        runs: true,
+        kind: EntryKind::Value,
+        status: Status::ExecDone,
+    },
+];
+
+const MAIN: [Option<u32>; 3] = [None, None, Some(2)];
+
+const LEGAL: [Line; 11] = [
+    Line::Submit(1, EntryKind::Add),
+    Line::Submit(2, EntryKind::Add),
+    Line::Launch(1, 1),
+    Line::Start(1, 1, 1),
+    Line::Ended(1, 1, 1, EntryKind::Value),
+    Line::Settled(1, Status::ExecDone),
+    Line::Launch(2, 1),
+    Line::Start(2, 1, 1),
+    Line::Ended(2, 1, 1, EntryKind::Value),
+    Line::Settled(2, Status::ExecDone),
+    Line::End,
+];
+
+// The legal log with a change: so many of its first entries, then these lines, and then what comes behind
+// so many of its first entries.
+fn changed(
+    alloc: Global,
+    first: usize,
+    lines: &[Line],
+    skipped: usize,
+) -> Result<Entries, AllocError> {
+    let mut entries = Entries::new(alloc);
+    for line in LEGAL.iter().take(first) {
+        entries.push(entry(alloc, *line)?)?;
+    }
+    add_all(alloc, &mut entries, lines)?;
+    for line in LEGAL.iter().skip(skipped) {
+        entries.push(entry(alloc, *line)?)?;
+    }
+    Ok(entries)
+}
+
+// Changes of the legal log, each with the law that it breaks, and the entry that breaks it.
+const BROKEN: [(usize, &[Line], usize, Law, usize); 32] = [
+    // a second settling
+    (
+        6,
+        &[Line::Settled(1, Status::ExecDone)],
+        6,
+        Law::Settling,
+        7,
+    ),
+    // another state
+    (5, &[Line::Settled(1, Status::Failed)], 6, Law::Settling, 6),
+    // an input that hasn't settled
+    (5, &[], 6, Law::Settling, 9),
+    // a settling of what isn't submitted
+    (1, &[], 2, Law::Settling, 9),
+    // the second call first
+    (
+        0,
+        &[
+            Line::Submit(2, EntryKind::Add),
+            Line::Submit(1, EntryKind::Add),
+        ],
+        2,
+        Law::Settling,
+        1,
+    ),
+    // a second submission
+    (1, &[Line::Submit(1, EntryKind::Add)], 1, Law::Settling, 2),
+    // another app
+    (0, &[Line::Submit(1, EntryKind::Value)], 1, Law::Settling, 1),
+    // a third call
+    (2, &[Line::Submit(3, EntryKind::Add)], 2, Law::Settling, 3),
+    // the end with a task unsettled
+    (9, &[], 10, Law::Settling, 10),
+    // an entry behind the end
+    (11, &[Line::Launch(1, 1)], 11, Law::Settling, 12),
+    // before the submission
+    (0, &[Line::Launch(1, 1)], 0, Law::Launch, 1),
+    // no task
+    (2, &[Line::Launch(3, 1)], 2, Law::Launch, 3),
+    // before the input has settled
+    (
+        5,
+        &[Line::Launch(2, 1), Line::Settled(1, Status::ExecDone)],
+        7,
+        Law::Launch,
+        6,
+    ),
+    // after the settling
+    (6, &[Line::Launch(1, 2)], 6, Law::Launch, 7),
+    // the second attempt first
+    (2, &[Line::Launch(1, 2)], 3, Law::Attempt, 3),
+    // a second attempt while the first one waits
+    (3, &[Line::Launch(1, 2)], 3, Law::Attempt, 4),
+    // the end of an attempt that wasn't launched
+    (2, &[], 3, Law::Attempt, 4),
+    // a second end behind a second start
+    (
+        5,
+        &[Line::Start(1, 1, 1), Line::Ended(1, 1, 1, EntryKind::Value)],
+        5,
+        Law::Attempt,
+        7,
+    ),
+    // another end of the body
+    (
+        4,
+        &[Line::Ended(1, 1, 1, EntryKind::ZeroDivisionError)],
+        5,
+        Law::Attempt,
+        5,
+    ),
+    // the end of another attempt
+    (
+        4,
+        &[Line::Ended(1, 2, 1, EntryKind::Value)],
+        5,
+        Law::Attempt,
+        5,
+    ),
+    // a second end
+    (
+        5,
+        &[Line::Ended(1, 1, 1, EntryKind::Value)],
+        5,
+        Law::Attempt,
+        6,
+    ),
+    // a settling while the attempt runs
+    (4, &[], 5, Law::Attempt, 5),
+    // a start at another manager
+    (3, &[Line::Start(1, 1, 2)], 4, Law::Manager, 4),
+    // a start of another attempt
+    (3, &[Line::Start(1, 2, 1)], 4, Law::Manager, 4),
+    // a second start
+    (4, &[Line::Start(1, 1, 1)], 4, Law::Manager, 5),
+    // a start before the launch
+    (
+        2,
+        &[Line::Start(1, 1, 1), Line::Launch(1, 1)],
+        4,
+        Law::Manager,
+        3,
+    ),
+    // a start of what has ended
+    (5, &[Line::Start(1, 1, 1)], 5, Law::Manager, 6),
+    // the end of what wasn't started
+    (3, &[], 4, Law::Manager, 4),
+    // an end at another manager
+    (
+        4,
+        &[Line::Ended(1, 1, 2, EntryKind::Value)],
+        5,
+        Law::Manager,
+        5,
+    ),
+    // no end
+    (10, &[], 11, Law::Completeness, 11),
+    // the first five entries
+    (5, &[], 11, Law::Completeness, 6),
+    // no entry
+    (0, &[], 11, Law::Completeness, 1),
+];
+
+#[test]
+fn the_log_of_two_calls_is_legal(rt: HostRuntime) -> Result<(), Fail> {
+    let alloc = rt.alloc();
+    let mut entries = Entries::new(alloc);
+    add_all(alloc, &mut entries, &LEGAL)?;
+    let table = table(alloc, &ROWS, &MAIN)?;
+    let retries = retries(alloc, None, 0)?;
+    assert_eq!(rt; verdict(&table, &retries, &entries), None);
+    Ok(())
+}
+
+#[test]
+fn each_change_breaks_its_law(rt: HostRuntime) -> Result<(), Fail> {
+    let alloc = rt.alloc();
+    let table = table(alloc, &ROWS, &MAIN)?;
+    let retries = retries(alloc, None, 0)?;
+    for (first, lines, skipped, law, entry) in BROKEN {
+        let entries = changed(alloc, first, lines, skipped)?;
+        let found = verdict(&table, &retries, &entries);
+        assert_eq!(rt; found, Some(Breach { law, entry }));
+    }
+    Ok(())
+}
+
+// Main waits for the first task before its second call.
+const WAITING_MAIN: [Option<u32>; 4] = [None, Some(1), None, Some(2)];
+
+const LATER_SUBMIT: [Line; 5] = [
+    Line::Launch(1, 1),
+    Line::Start(1, 1, 1),
+    Line::Ended(1, 1, 1, EntryKind::Value),
+    Line::Settled(1, Status::ExecDone),
+    Line::Submit(2, EntryKind::Add),
+];
+
+#[test]
+fn a_call_behind_a_wait_is_submitted_later(rt: HostRuntime) -> Result<(), Fail> {
+    let alloc = rt.alloc();
+    let table = table(alloc, &ROWS, &WAITING_MAIN)?;
+    let retries = retries(alloc, None, 0)?;
+    let law = Law::Settling;
+    let early = changed(alloc, 11, &[], 11)?;
+    assert_eq!(rt;
+        verdict(&table, &retries, &early),
+        Some(Breach { law, entry: 2 })
+    );
+    let later = changed(alloc, 1, &LATER_SUBMIT, 6)?;
+    assert_eq!(rt; verdict(&table, &retries, &later), None);
+    Ok(())
+}
+
+// The first task divides by 0 at each attempt, and the second one needs its value.
+const FAILING_ROWS: [Row; 2] = [
+    Row {
+        task: 1,
+        input: None,
+        runs: true,
+        kind: EntryKind::ZeroDivisionError,
+        status: Status::Failed,
+    },
+    Row {
+        task: 2,
+        input: Some(1),
+        runs: false,
+        kind: EntryKind::Value,
+        status: Status::DepFail,
+    },
+];
+
+const FAILING: [Line; 11] = [
+    Line::Submit(1, EntryKind::Add),
+    Line::Submit(2, EntryKind::Add),
+    Line::Launch(1, 1),
+    Line::Start(1, 1, 1),
+    Line::Ended(1, 1, 1, EntryKind::ZeroDivisionError),
+    Line::Launch(1, 2),
+    Line::Start(1, 2, 1),
+    Line::Ended(1, 2, 1, EntryKind::ZeroDivisionError),
+    Line::Settled(1, Status::Failed),
+    Line::Settled(2, Status::DepFail),
+    Line::End,
+];
+
+// The cost of a division by 0, where it is given, and the limit, with the entry that breaks the law of
+// attempts.
+const LIMITS: [(Option<u32>, u32, Option<usize>); 6] = [
+    (None, 100, None),
+    (None, 99, Some(6)),
+    (None, 199, None),
+    (None, 200, Some(9)),
+    (Some(50), 50, None),
+    (Some(50), 100, Some(9)),
+];
+
+fn breach_of_attempts(entry: Option<usize>) -> Option<Breach> {
+    let entry = entry?;
+    Some(Breach {
+        law: Law::Attempt,
+        entry,
+    })
+}
+
+#[test]
+fn a_task_is_tried_again_while_its_costs_are_within_the_limit(rt: HostRuntime) -> Result<(), Fail> {
+    let alloc = rt.alloc();
+    let table = table(alloc, &FAILING_ROWS, &MAIN)?;
+    let mut entries = Entries::new(alloc);
+    add_all(alloc, &mut entries, &FAILING)?;
+    for (cost, limit, entry) in LIMITS {
+        let retries = retries(alloc, cost, limit)?;
+        let found = verdict(&table, &retries, &entries);
+        assert_eq!(rt; found, breach_of_attempts(entry));
+    }
+    Ok(())
+}

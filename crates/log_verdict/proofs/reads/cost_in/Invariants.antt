@@ -1,6 +1,0 @@
-use Rattle.std.proofs.Common.{◌≡◌, drop}
-use Rattle.flow_laws.specs.Reads.{cost_in}
-use Rattle.log_verdict.proofs.reads.cost_in.Given as goal
-
-abbrev pub invariant-loop-cost : goal.invariant-loop-cost
-invariant-loop-cost l = cost_in (drop l.cost-index l.costs) l.name ≡ cost_in l.costs l.name

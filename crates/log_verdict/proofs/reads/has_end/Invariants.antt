@@ -1,6 +1,0 @@
-use Rattle.std.proofs.Common.{◌≡◌, take, reverse}
-use Rattle.flow_laws.specs.Reads.{has_end}
-use Rattle.log_verdict.proofs.reads.has_end.Given as goal
-
-abbrev pub invariant-loop-entry : goal.invariant-loop-entry
-invariant-loop-entry l = l.ended ≡ has_end (reverse (take l.entry-index l.before))

@@ -1,6 +1,0 @@
-use Rattle.std.proofs.Common.{◌≡◌, take, reverse}
-use Rattle.flow_laws.specs.Reads.{is_submitted}
-use Rattle.log_verdict.proofs.reads.is_submitted.Given as goal
-
-abbrev pub invariant-loop-entry : goal.invariant-loop-entry
-invariant-loop-entry l = l.submitted ≡ is_submitted l.path (reverse (take l.entry-index l.before))

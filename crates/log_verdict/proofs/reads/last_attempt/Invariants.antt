@@ -1,7 +1,0 @@
-use Rattle.std.proofs.Common.{◌≡◌, take, reverse}
-use Rattle.log_verdict.specs.Progress.{progress_of}
-use Rattle.flow_laws.specs.Reads.{stage}
-use Rattle.log_verdict.proofs.reads.last_attempt.Given as goal
-
-abbrev pub invariant-loop-entry : goal.invariant-loop-entry
-invariant-loop-entry l = l.progress ≡ progress_of (stage l.path (reverse (take l.entry-index l.before)))

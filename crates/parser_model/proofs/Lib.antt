@@ -1,0 +1,16 @@
+pub mod Equations
+pub mod Spelled
+pub mod Steps
+pub mod Completion
+pub mod Complete
+pub mod Least
+pub mod Blocks
+pub mod BlockEnds
+pub mod BlockReads
+pub mod Scripts
+pub mod ScriptReads
+pub mod Parsing
+pub mod FaultNumbers
+pub mod PieceSizes
+pub mod Places
+pub mod Rests

@@ -1,0 +1,9 @@
+pub mod Turns
+pub mod Runs
+pub mod Quotes
+pub mod TokenKinds
+pub mod Pieces
+pub mod Parts
+pub mod Expressions
+pub mod Blocks
+pub mod Reading
