@@ -21,6 +21,7 @@ impl Model for Outer {
 }
 
 impl Outer {
+    /// No block is open.
     pub fn new(alloc: Global) -> Outer
         ensures { result ≡ [] }
     {

@@ -2,7 +2,7 @@
 use Rattle.std.proofs.Common.{◌≡◌, ℕ, ◌<◌, false, length, Option, Some, None, IsSome, refl, sym, subst}
 use Rattle.std.specs.Prelude.{slice_get}
 use Rattle.script_tree.specs.declared.tree.AppDef.{AppDef}
-use Rattle.script_tree.specs.Small.{tree_of}
+use Rattle.small_tree.specs.Small.{tree_of}
 use Rattle.task_record.specs.declared.status.Status.TheVariants as status
 use Rattle.history_laws.specs.Tables.{joins}
 use Rattle.kernel_model.specs.Jobs.{JobView}

@@ -18,14 +18,14 @@ use Rattle.script_tree.specs.declared.tree.Statement.TheOpen.{Statement-F}
 use Rattle.script_tree.specs.declared.tree.Statement.TheVariants as statement
 use Rattle.script_tree.specs.declared.tree.Block.{Block, out-Block, out-roll-Block}
 use Rattle.script_tree.specs.declared.tree.AppDef.{AppDef}
-use Rattle.script_tree.specs.declared.small.Operand.{Operand}
-use Rattle.script_tree.specs.declared.small.Operand.TheVariants as operand
-use Rattle.script_tree.specs.declared.small.SmallApp.{SmallApp}
-use Rattle.script_tree.specs.declared.small.SmallStatement.{SmallStatement}
-use Rattle.script_tree.specs.declared.small.SmallStatement.TheVariants as small
-use Rattle.script_tree.specs.declared.small.SmallScript.{SmallScript}
+use Rattle.small_tree.specs.declared.small.Operand.{Operand}
+use Rattle.small_tree.specs.declared.small.Operand.TheVariants as operand
+use Rattle.small_tree.specs.declared.small.SmallApp.{SmallApp}
+use Rattle.small_tree.specs.declared.small.SmallStatement.{SmallStatement}
+use Rattle.small_tree.specs.declared.small.SmallStatement.TheVariants as small
+use Rattle.small_tree.specs.declared.small.SmallScript.{SmallScript}
 use Rattle.script_tree.specs.Grammar.{Tree}
-use Rattle.script_tree.specs.Small.{tree_of, main_of, app_of, app_body, statement_of, call_expr, result_expr, sum_expr, operand_expr, operand_atom, plus_operand, alone, expr_of, term_of}
+use Rattle.small_tree.specs.Small.{tree_of, main_of, app_of, app_body, statement_of, call_expr, result_expr, sum_expr, operand_expr, operand_atom, plus_operand, alone, expr_of, term_of}
 
 -- ---- an atom alone, and a sum alone
 

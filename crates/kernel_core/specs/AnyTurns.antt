@@ -2,7 +2,7 @@
 use Rattle.std.specs.Prelude.{◌≡◌, ◌⊎◌, ℕ, Bool, true, false, List, [], ◌∷◌, Option, Some}
 use Rattle.flow_base.specs.declared.outcome.Outcome.{Outcome}
 use Rattle.script_tree.specs.declared.tree.AppDef.{AppDef}
-use Rattle.script_tree.specs.Small.{tree_of}
+use Rattle.small_tree.specs.Small.{tree_of}
 use Rattle.flow_meaning.specs.Sequential.{outcome_at, seq}
 use Rattle.history_laws.specs.Reads.{lost, has_end}
 use Rattle.history_laws.specs.Tables.{table}

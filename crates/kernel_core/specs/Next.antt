@@ -4,8 +4,8 @@ use Rattle.flow_base.specs.declared.value.Value.{Value}
 use Rattle.flow_base.specs.declared.outcome.FileOut.{FileOut}
 use Rattle.flow_base.specs.declared.outcome.Exception.{Exception}
 use Rattle.flow_base.specs.declared.outcome.Outcome.TheVariants as o
-use Rattle.script_tree.specs.declared.small.SmallStatement.{SmallStatement}
-use Rattle.script_tree.specs.declared.small.SmallStatement.TheVariants as small
+use Rattle.small_tree.specs.declared.small.SmallStatement.{SmallStatement}
+use Rattle.small_tree.specs.declared.small.SmallStatement.TheVariants as small
 use Rattle.small_meaning.specs.Plan.{names_of, place_of, argument_in}
 use Rattle.small_meaning.specs.Steps.{value_of_argument}
 use Rattle.kernel_model.specs.Known.{Known, has_ended, settled_outcome}

@@ -1,9 +1,9 @@
 -- What the fields of a kernel mean, and how a kernel begins.
 use Rattle.std.specs.Prelude.{◌≡◌, ◌<◌, ◌^◌, ℕ, Bool, true, List, Option, length, map, reverse, drop}
 use Rattle.flow_base.specs.declared.outcome.Exception.{Exception}
-use Rattle.script_tree.specs.declared.small.SmallScript.{SmallScript}
+use Rattle.small_tree.specs.declared.small.SmallScript.{SmallScript}
 use Rattle.script_tree.specs.Grammar.{Tree}
-use Rattle.script_tree.specs.Small.{tree_of}
+use Rattle.small_tree.specs.Small.{tree_of}
 use Rattle.event_log.specs.declared.entry.Entry.{Entry}
 use Rattle.flow_meaning.specs.Operators.{Text}
 use Rattle.dependency_graph.specs.declared.monitor.Settlement.{Settlement}

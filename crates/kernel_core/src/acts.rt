@@ -1,7 +1,7 @@
 //! The acts of a kernel: each changes its records and adds its entries, or changes nothing.
 
 ghost use Rattle.std.specs.Prelude.{◌≡◌, Some, OnOk, OnErr, IfOk, map, slice_get};
-ghost use Rattle.script_tree.specs.Small.{app_of};
+ghost use Rattle.small_tree.specs.Small.{app_of};
 ghost use Rattle.flow_meaning.specs.Evaluations.{name_in};
 ghost use Rattle.flow_base.specs.declared.outcome.Outcome.{Outcome as OutcomeOf};
 ghost use Rattle.flow_base.specs.declared.outcome.Outcome.TheVariants as o;
@@ -20,7 +20,7 @@ use dependency_graph::Monitor;
 use event_log::Entry;
 use flow_base::{Exception, Names, Outcome, Path, Text, Value};
 use kernel_model::Refusal;
-use script_tree::small::SmallApp;
+use small_tree::small::SmallApp;
 use std::alloc::{AllocError, Global};
 use task_record::TaskRecord;
 

@@ -2,7 +2,7 @@
 
 ghost use Rattle.std.specs.Prelude.{◌≡◌, ◌<◌, ◌^◌, [], ◌∷◌, length, map, reverse, IfOk};
 ghost use Rattle.std.specs.Arc.{arc_value};
-ghost use Rattle.script_tree.specs.Small.{IsSmall, tree_of};
+ghost use Rattle.small_tree.specs.Small.{IsSmall, tree_of};
 ghost use Rattle.small_meaning.specs.Plan.{is_sound};
 ghost use Rattle.history_laws.specs.Reads.{history_of, has_end};
 ghost use Rattle.kernel_model.specs.Known.{has_ended};
@@ -15,7 +15,7 @@ use event_log::{Entries, Entry};
 use flow_base::{Exception, Text, Value};
 use script_tree::checked::Checked;
 use script_tree::script::Script;
-use script_tree::small::SmallScript;
+use small_tree::small::SmallScript;
 use small_scripts::small_script;
 use std::alloc::{AllocError, Global};
 use std::marker::Model;
@@ -59,7 +59,7 @@ impl<M: Monitor> Model for Kernel<M> {
     ghost use Rattle.std.specs.Arc.{arc_value};
     ghost use Rattle.std.specs.Coded.{codes};
     ghost use Rattle.flow_base.specs.contracts.value.Value as value;
-    ghost use Rattle.script_tree.specs.Small.{tree_of};
+    ghost use Rattle.small_tree.specs.Small.{tree_of};
     ghost use Rattle.kernel_model.specs.Known.{Known};
     ghost use Rattle.kernel_model.specs.Invariants.{Inv};
     ghost use Rattle.kernel_core.specs.Tasks.{AreNumbered, running_in, call_of, life_of};

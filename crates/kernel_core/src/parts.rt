@@ -1,7 +1,7 @@
 //! What a kernel gives back at the end of a run.
 
 ghost use Rattle.std.specs.Prelude.{◌≡◌, map, IfOk};
-ghost use Rattle.script_tree.specs.Small.{app_of};
+ghost use Rattle.small_tree.specs.Small.{app_of};
 ghost use Rattle.history_laws.specs.Reads.{history_of};
 ghost use Rattle.kernel_model.specs.Known.{printed_in};
 ghost use Rattle.kernel_model.specs.Evaluated.{evaluated, main_ending};
@@ -14,7 +14,7 @@ use crate::task::Task;
 use dependency_graph::Monitor;
 use event_log::Entries;
 use flow_base::{Ending, Evaluation, Exception, Items, TaskEnd, TaskEnds};
-use script_tree::small::SmallApp;
+use small_tree::small::SmallApp;
 use std::alloc::{AllocError, Global};
 
 impl<M: Monitor> Kernel<M> {

@@ -8,7 +8,7 @@ ghost use Rattle.kernel_core.specs.Next.{next_of};
 use crate::kernel::Kernel;
 use dependency_graph::Monitor;
 use flow_base::{Items, Path, Text, Value};
-use script_tree::small::{Operand, SmallApp, SmallStatement};
+use small_tree::small::{Operand, SmallApp, SmallStatement};
 use std::alloc::{AllocError, Global};
 
 /// A call that main is about to make.

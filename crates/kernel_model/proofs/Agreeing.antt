@@ -16,8 +16,8 @@ use Rattle.flow_base.specs.declared.outcome.Outcome.TheVariants as o
 use Rattle.flow_base.specs.declared.outcome.Ended.{Ended}
 use Rattle.flow_base.specs.declared.outcome.Ended.TheVariants as ended
 use Rattle.script_tree.specs.declared.tree.AppDef.{AppDef}
-use Rattle.script_tree.specs.declared.small.SmallApp.{SmallApp}
-use Rattle.script_tree.specs.Small.{app_of}
+use Rattle.small_tree.specs.declared.small.SmallApp.{SmallApp}
+use Rattle.small_tree.specs.Small.{app_of}
 use Rattle.flow_meaning.specs.Inputs.{Path, inputs, distinct, path_in, paths_in, are_deep}
 use Rattle.flow_meaning.specs.Operators.{Layer, Text}
 use Rattle.flow_meaning.specs.Sequential.{Task, Tasks, outcome_at, failed, failed_among, resolved, apply, outcome_of, Ran, Rule, rule, settles, lost_or, value_in, file_in, replaced, replaced_in, by_rules, runs}

@@ -8,9 +8,9 @@ use Rattle.flow_base.specs.declared.outcome.Exception.{Exception}
 use Rattle.flow_base.specs.declared.outcome.Outcome.{Outcome}
 use Rattle.flow_base.specs.declared.outcome.TaskEnd.{TaskEnd}
 use Rattle.script_tree.specs.declared.tree.AppDef.{AppDef}
-use Rattle.script_tree.specs.declared.small.SmallScript.{SmallScript}
-use Rattle.script_tree.specs.declared.small.SmallStatement.{SmallStatement}
-use Rattle.script_tree.specs.Small.{tree_of}
+use Rattle.small_tree.specs.declared.small.SmallScript.{SmallScript}
+use Rattle.small_tree.specs.declared.small.SmallStatement.{SmallStatement}
+use Rattle.small_tree.specs.Small.{tree_of}
 use Rattle.event_log.specs.declared.entry.Entry.TheVariants as entry
 use Rattle.flow_meaning.specs.Evaluations.{evaluation_in, task_end}
 use Rattle.flow_meaning.specs.Meaning.{Done}

@@ -8,9 +8,9 @@ use Rattle.flow_base.specs.declared.value.Value.{Value, out-Value}
 use Rattle.flow_base.specs.declared.outcome.Exception.{Exception}
 use Rattle.flow_base.specs.declared.outcome.Outcome.{Outcome}
 use Rattle.script_tree.specs.declared.tree.AppDef.{AppDef}
-use Rattle.script_tree.specs.declared.small.SmallScript.{SmallScript}
-use Rattle.script_tree.specs.declared.small.SmallStatement.{SmallStatement}
-use Rattle.script_tree.specs.Small.{app_of, tree_of}
+use Rattle.small_tree.specs.declared.small.SmallScript.{SmallScript}
+use Rattle.small_tree.specs.declared.small.SmallStatement.{SmallStatement}
+use Rattle.small_tree.specs.Small.{app_of, tree_of}
 use Rattle.flow_meaning.specs.Inputs.{Path, inputs, path_in}
 use Rattle.flow_meaning.specs.Operators.{Text}
 use Rattle.flow_meaning.specs.Sequential.{Task, Tasks, outcome_at, Made, no_calls, Main, MainAct, Ran, Rule, rule, makes, perform, main_answer, Waits, Prints, Checkpoints, acted, waits, seq, main_room}

@@ -2,8 +2,8 @@
 use Rattle.std.proofs.Common.{◌≡◌, ℕ, ◌<◌, List, length, Some, sym, ◌∙◌, ap, subst, arith}
 use Rattle.std.specs.Prelude.{slice_get}
 use Rattle.flow_base.specs.declared.outcome.Outcome.{Outcome}
-use Rattle.script_tree.specs.declared.small.SmallScript.{SmallScript}
-use Rattle.script_tree.specs.Small.{tree_of}
+use Rattle.small_tree.specs.declared.small.SmallScript.{SmallScript}
+use Rattle.small_tree.specs.Small.{tree_of}
 use Rattle.flow_meaning.specs.Inputs.{Path, inputs}
 use Rattle.flow_meaning.specs.Evaluations.{name_in}
 use Rattle.flow_meaning.specs.Sequential.{outcome_at, Ran, rule, main_room}

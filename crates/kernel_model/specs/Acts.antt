@@ -4,9 +4,9 @@ use Rattle.std.proofs.Common.{set}
 use Rattle.flow_base.specs.declared.value.Value.{Value}
 use Rattle.flow_base.specs.declared.outcome.Exception.{Exception}
 use Rattle.flow_base.specs.declared.outcome.Outcome.{Outcome}
-use Rattle.script_tree.specs.declared.small.SmallScript.{SmallScript}
-use Rattle.script_tree.specs.declared.small.SmallStatement.{SmallStatement}
-use Rattle.script_tree.specs.declared.small.Operand.{Operand}
+use Rattle.small_tree.specs.declared.small.SmallScript.{SmallScript}
+use Rattle.small_tree.specs.declared.small.SmallStatement.{SmallStatement}
+use Rattle.small_tree.specs.declared.small.Operand.{Operand}
 use Rattle.task_record.specs.declared.status.Status.TheVariants as status
 use Rattle.event_log.specs.declared.entry.Entry.{Entry}
 use Rattle.event_log.specs.declared.entry.Entry.TheVariants as entry

@@ -5,9 +5,9 @@ use Rattle.flow_base.specs.declared.outcome.FileOut.{FileOut}
 use Rattle.flow_base.specs.declared.outcome.Exception.{Exception}
 use Rattle.flow_base.specs.declared.outcome.Outcome.{Outcome}
 use Rattle.flow_base.specs.declared.outcome.Outcome.TheVariants as o
-use Rattle.script_tree.specs.declared.small.SmallStatement.{SmallStatement}
-use Rattle.script_tree.specs.declared.small.SmallStatement.TheVariants as small
-use Rattle.script_tree.specs.declared.small.Operand.{Operand}
+use Rattle.small_tree.specs.declared.small.SmallStatement.{SmallStatement}
+use Rattle.small_tree.specs.declared.small.SmallStatement.TheVariants as small
+use Rattle.small_tree.specs.declared.small.Operand.{Operand}
 use Rattle.task_record.specs.declared.status.Status.TheVariants as status
 use Rattle.flow_meaning.specs.Operators.{Text}
 use Rattle.flow_meaning.specs.Sequential.{outcome_of}

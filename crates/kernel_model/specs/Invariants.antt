@@ -6,8 +6,8 @@ use Rattle.flow_base.specs.declared.value.Value.TheVariants as v
 use Rattle.flow_base.specs.declared.outcome.FileOut.{FileOut}
 use Rattle.flow_base.specs.declared.outcome.Outcome.{Outcome}
 use Rattle.flow_base.specs.declared.outcome.Outcome.TheVariants as o
-use Rattle.script_tree.specs.declared.small.SmallApp.{SmallApp}
-use Rattle.script_tree.specs.Small.{tree_of}
+use Rattle.small_tree.specs.declared.small.SmallApp.{SmallApp}
+use Rattle.small_tree.specs.Small.{tree_of}
 use Rattle.task_record.specs.declared.status.Status.{Status}
 use Rattle.task_record.specs.declared.status.Status.TheVariants as status
 use Rattle.task_record.specs.States.{is_settled}

@@ -18,7 +18,7 @@ use Rattle.script_tree.specs.declared.tree.Statement.{Statement}
 use Rattle.script_tree.specs.declared.tree.Statement.TheVariants as statement
 use Rattle.script_tree.specs.declared.tree.Block.{Block, roll-Block}
 use Rattle.script_tree.specs.declared.tree.AppDef.{AppDef}
-use Rattle.script_tree.specs.Small.{term_of, expr_of, alone}
+use Rattle.small_tree.specs.Small.{term_of, expr_of, alone}
 
 abbrev pub Name : Type 0
 Name = List ℕ

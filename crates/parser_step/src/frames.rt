@@ -130,6 +130,7 @@ fn in_frame(
     }
 }
 
+/// The innermost bracket is closed behind an expression; where none is open the expression is whole.
 pub fn close(
     alloc: Global,
     frames: &mut ListOf<OpenBracket>,
@@ -207,6 +208,7 @@ fn empty_frame(
     }
 }
 
+/// The innermost bracket is closed with nothing in it; where that can't be, the expression stops.
 pub fn empty(
     alloc: Global,
     frames: &mut ListOf<OpenBracket>,
@@ -220,6 +222,7 @@ pub fn empty(
     }
 }
 
+/// A bracket is opened, and the expression goes on inside it.
 pub fn open(
     frames: &mut ListOf<OpenBracket>,
     frame: OpenBracket,

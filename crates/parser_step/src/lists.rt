@@ -11,6 +11,7 @@ use script_tree::tree::{Atom, Expr, Name};
 use sqlite_items::Items as ListOf;
 use std::alloc::{AllocError, Global};
 
+/// Whether the token is `(`.
 pub fn opens_paren(token: &Token) -> bool
     ensures { result ≡ spec.opens_paren token.now }
 {
@@ -29,6 +30,7 @@ fn is_to(token: &Token) -> bool
     }
 }
 
+/// Behind a name: a call of a built-in where `(` follows, else a variable.
 pub fn named(
     alloc: Global,
     before: Before,
@@ -45,6 +47,7 @@ pub fn named(
     after(alloc, before, post, behind_of(token))
 }
 
+/// Behind the arguments of a call: `to` and its names, or the call is whole.
 pub fn called(
     alloc: Global,
     before: Before,
@@ -61,6 +64,7 @@ pub fn called(
     after(alloc, before, post, behind_of(token))
 }
 
+/// A list is whole: what it was opened for becomes an operand.
 pub fn list_done(
     alloc: Global,
     listing: Listing,
@@ -81,6 +85,7 @@ pub fn list_done(
     }
 }
 
+/// The kind of bracket or comma that the token is.
 pub fn closer_of(token: &Token) -> Closer
     ensures { result ≡ spec.closer_of token.now }
 {
@@ -92,6 +97,7 @@ pub fn closer_of(token: &Token) -> Closer
     }
 }
 
+/// Whether this ends such a list.
 pub fn ends_list(listing: &Listing, closer: Closer) -> bool
     ensures { result ≡ spec.ends_list listing.now closer }
 {
@@ -103,6 +109,7 @@ pub fn ends_list(listing: &Listing, closer: Closer) -> bool
     }
 }
 
+/// Whether such a list may have no items: all may but the names behind `to`.
 pub fn may_be_empty(listing: &Listing) -> bool
     ensures { result ≡ spec.may_be_empty listing.now }
 {

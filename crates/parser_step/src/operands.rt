@@ -74,6 +74,7 @@ fn operand_symbol(alloc: Global, before: Before, symbol: Symbol) -> ExprMove
     }
 }
 
+/// The token where an operand is wanted and no sign may stand.
 pub fn operand(alloc: Global, before: Before, token: Token) -> ExprMove
     ensures { result ≡ spec.operand before token }
 {
@@ -131,6 +132,7 @@ fn wanted_symbol(alloc: Global, before: Before, symbol: Symbol) -> ExprMove
     }
 }
 
+/// The token where an operand is wanted, with its sign.
 pub fn wanted(alloc: Global, before: Before, token: Token) -> ExprMove
     ensures { result ≡ spec.wanted before token }
 {
@@ -152,6 +154,7 @@ fn first_symbol(alloc: Global, symbol: Symbol) -> ExprMove
     }
 }
 
+/// The first token in a bracket: an operand, or the bracket's end.
 pub fn first(alloc: Global, token: Token) -> ExprMove
     ensures { result ≡ spec.first token }
 {
@@ -164,6 +167,7 @@ pub fn first(alloc: Global, token: Token) -> ExprMove
     }
 }
 
+/// The token behind `call`: the app's name.
 pub fn call_word(before: Before, token: Token) -> ExprMove
     ensures { result ≡ spec.call_word before token }
 {

@@ -10,6 +10,7 @@ use script_tree::token::{Keyword, Symbol, Token};
 use script_tree::tree::{CompareOp, Post, SumOp, TermOp};
 use std::alloc::{AllocError, Global};
 
+/// What a token means behind an operand.
 pub fn behind_of(token: &Token) -> Behind
     ensures { result ≡ spec.behind_of token.now }
 {
@@ -147,6 +148,7 @@ fn compares(
     })))
 }
 
+/// Behind an operand: an operator, an index, or the expression's end.
 pub fn after(
     alloc: Global,
     before: Before,

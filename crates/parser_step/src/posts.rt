@@ -9,6 +9,7 @@ use script_tree::tree::{Atom, CallExpr, Expr, Name, Post};
 use sqlite_items::{Boxed, Items as ListOf};
 use std::alloc::{AllocError, Global};
 
+/// An expression of which nothing has been read.
 pub fn nothing_before() -> Before
     ensures { result ≡ spec.nothing_before }
 {
@@ -22,6 +23,7 @@ pub fn nothing_before() -> Before
     }
 }
 
+/// An atom without indices.
 pub fn bare(alloc: Global, atom: Atom) -> Post
     ensures { result ≡ spec.bare atom }
 {
@@ -31,6 +33,7 @@ pub fn bare(alloc: Global, atom: Atom) -> Post
     }
 }
 
+/// A call as an operand.
 pub fn call_post(
     alloc: Global,
     app: Name,
@@ -50,6 +53,7 @@ pub fn call_post(
     Ok(bare(alloc, Atom::Call(call)))
 }
 
+/// The operand with one more index.
 pub fn with_index(post: Post, index: Expr) -> Result<Post, AllocError>
     ensures { IfOk result (λ p. p ≡ spec.with_index post index) }
 {
@@ -58,6 +62,7 @@ pub fn with_index(post: Post, index: Expr) -> Result<Post, AllocError>
     Ok(post)
 }
 
+/// An expression in parentheses as an operand.
 pub fn paren(alloc: Global, inner: Expr) -> Result<Post, AllocError>
     ensures { IfOk result (λ p. p ≡ spec.bare (atom.Paren inner)) }
 {
@@ -65,6 +70,7 @@ pub fn paren(alloc: Global, inner: Expr) -> Result<Post, AllocError>
     Ok(bare(alloc, Atom::Paren(inner)))
 }
 
+/// The list with one more item.
 pub fn with_item(items: ListOf<Expr>, item: Expr) -> Result<ListOf<Expr>, AllocError>
     ensures { IfOk result (λ all. all ≡ items ++ item ∷ []) }
 {

@@ -56,6 +56,7 @@ fn comp_of(so_far: Option<(Sum, CompareOp)>, right: Sum) -> Comp
     }
 }
 
+/// The comparison joined by `and` to those before it.
 pub fn conj_of(alloc: Global, so_far: Option<Conj>, comp: Comp) -> Result<Conj, AllocError>
     ensures { IfOk result (λ x. x ≡ spec.conj_of so_far comp) }
 {
@@ -86,6 +87,7 @@ fn expr_of(alloc: Global, so_far: Option<Expr>, conj: Conj) -> Result<Expr, Allo
     }
 }
 
+/// The operand with its sign, multiplied to those before it.
 pub fn made_term(
     alloc: Global,
     term: Option<(Term, TermOp)>,
@@ -97,6 +99,7 @@ pub fn made_term(
     term_of(alloc, term, Unary { op, post })
 }
 
+/// The term that ends with this operand, added to those before it.
 pub fn made_sum(
     alloc: Global,
     sum: Option<(Sum, SumOp)>,
@@ -110,6 +113,7 @@ pub fn made_sum(
     sum_of(alloc, sum, term)
 }
 
+/// The sum that ends with this operand, compared to the one before it.
 pub fn made_comp(
     alloc: Global,
     left: Option<(Sum, CompareOp)>,
@@ -124,6 +128,7 @@ pub fn made_comp(
     Ok(comp_of(left, sum))
 }
 
+/// The expression that ends with this operand.
 #[tactic(auto, unfolding(parser_model::specs::Reading::whole_expr, parser_model::specs::Reading::whole_conj, parser_model::specs::Reading::whole_comp, parser_model::specs::Reading::whole_sum, parser_model::specs::Reading::whole_term))]
 pub fn whole_expr(alloc: Global, before: Before, post: Post) -> Result<Expr, AllocError>
     ensures { IfOk result (λ x. x ≡ spec.whole_expr before post) }

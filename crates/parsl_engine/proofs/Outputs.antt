@@ -5,10 +5,10 @@ use Rattle.std.specs.List.{list_all}
 use Rattle.std.specs.declared.result.Result.{Result}
 use Rattle.std.specs.declared.alloc.AllocError.{AllocError}
 use Rattle.script_tree.specs.declared.tree.AppDef.{AppDef}
-use Rattle.script_tree.specs.declared.small.SmallScript.{SmallScript}
+use Rattle.small_tree.specs.declared.small.SmallScript.{SmallScript}
 use Rattle.script_tree.specs.Grammar.{Tree, PlacedTree, HasTree}
 use Rattle.script_tree.specs.Rules.{IsWellFormed}
-use Rattle.script_tree.specs.Small.{app_of, tree_of, IsSmall}
+use Rattle.small_tree.specs.Small.{app_of, tree_of, IsSmall}
 use Rattle.flow_base.specs.declared.outcome.Evaluation.{Evaluation}
 use Rattle.flow_base.specs.declared.outcome.Outcome.{Outcome}
 use Rattle.flow_base.specs.declared.outcome.Outcome.TheVariants as o

@@ -11,7 +11,7 @@ use Rattle.flow_base.specs.declared.outcome.TaskEnd.{TaskEnd}
 use Rattle.event_log.specs.declared.entry.Entry.{Entry}
 use Rattle.script_tree.specs.Canonical.{canonical}
 use Rattle.script_tree.specs.Grammar.{PlacedTree}
-use Rattle.script_tree.specs.Small.{IsSmall}
+use Rattle.small_tree.specs.Small.{IsSmall}
 use Rattle.flow_meaning.specs.Evaluations.{evaluation, IsInRange}
 use Rattle.run_report.specs.Reported.{report_text}
 use Rattle.parsl_engine.specs.declared.words.Command.{Command}

@@ -2,7 +2,7 @@
 
 ghost use Rattle.std.specs.Prelude.{◌≡◌, ◌<◌, false, IfOk, OnOk, OnErr};
 ghost use Rattle.std.specs.Arc.{arc_value};
-ghost use Rattle.script_tree.specs.Small.{tree_of};
+ghost use Rattle.small_tree.specs.Small.{tree_of};
 ghost use Rattle.history_laws.specs.Reads.{has_end};
 ghost use Rattle.kernel_model.specs.Known.{has_ended, status_at};
 ghost use Rattle.kernel_model.specs.Work.{turns_left, NoneRuns};

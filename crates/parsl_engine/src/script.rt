@@ -1,7 +1,7 @@
 //! Scripts that are read and checked.
 
 ghost use Rattle.std.specs.Prelude.{◌≡◌, ◌↔◌, IfOk, true};
-ghost use Rattle.script_tree.specs.Small.{IsSmall};
+ghost use Rattle.small_tree.specs.Small.{IsSmall};
 ghost use Rattle.parsl_engine.specs.Scripts.{IsRead};
 
 use app_check::{CheckFault, check};

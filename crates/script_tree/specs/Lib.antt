@@ -7,4 +7,3 @@ pub mod Grammar
 pub mod Canonical
 pub mod Marks
 pub mod Rules
-pub mod Small

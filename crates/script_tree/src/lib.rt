@@ -7,7 +7,6 @@ pub mod built_ins;
 pub mod checked;
 pub mod fault;
 pub mod script;
-pub mod small;
 pub mod token;
 pub mod tree;
 

@@ -8,9 +8,9 @@ use Rattle.script_tree.specs.declared.tree.Block.{roll-Block, fold-roll-Block}
 use Rattle.script_tree.specs.declared.tree.Statement.{Statement, fold-roll-Statement}
 use Rattle.script_tree.specs.declared.tree.Statement.TheVariants as statement
 use Rattle.script_tree.specs.declared.tree.Expr.{Expr}
-use Rattle.script_tree.specs.declared.small.SmallApp.{SmallApp}
+use Rattle.small_tree.specs.declared.small.SmallApp.{SmallApp}
 use Rattle.script_tree.specs.Folds.{fold_block, fold_statement}
-use Rattle.script_tree.specs.Small.{app_of}
+use Rattle.small_tree.specs.Small.{app_of}
 use Rattle.flow_meaning.specs.Act.{Act, Give, Throw, ◌>>=◌}
 use Rattle.flow_meaning.specs.Operators.{Text}
 use Rattle.flow_meaning.specs.Meaning.{State, Flow, Returns, Done, doing, does, value_of, sequence, and_then, done, body, max_turns}

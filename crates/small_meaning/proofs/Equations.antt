@@ -12,9 +12,9 @@ use Rattle.script_tree.specs.declared.tree.Post.{fold-roll-Post}
 use Rattle.script_tree.specs.declared.tree.Sum.{Sum, roll-Sum, fold-roll-Sum}
 use Rattle.script_tree.specs.declared.tree.Term.{Term, fold-roll-Term}
 use Rattle.script_tree.specs.declared.tree.Unary.{fold-roll-Unary}
-use Rattle.script_tree.specs.declared.small.Operand.{Operand}
+use Rattle.small_tree.specs.declared.small.Operand.{Operand}
 use Rattle.script_tree.specs.Folds.{fold_atom, fold_added, fold_call, fold_compared, fold_comp, fold_conj, fold_expr, fold_factor, fold_post, fold_sum, fold_term, fold_unary}
-use Rattle.script_tree.specs.Small.{term_of, expr_of, operand_atom, plus_operand, alone}
+use Rattle.small_tree.specs.Small.{term_of, expr_of, operand_atom, plus_operand, alone}
 use Rattle.flow_meaning.specs.Act.{Act, Give, Throw, Ask, ◌>>=◌}
 use Rattle.flow_meaning.specs.Operators.{Text}
 use Rattle.flow_meaning.specs.Meaning.{Vars, meaning, value_of, sums, got}

@@ -11,11 +11,11 @@ use Rattle.script_tree.specs.declared.tree.CallExpr.{CallExpr, roll-CallExpr, fo
 use Rattle.script_tree.specs.declared.tree.Expr.{Expr}
 use Rattle.script_tree.specs.declared.tree.Statement.{fold-roll-Statement}
 use Rattle.script_tree.specs.declared.tree.Statement.TheVariants as statement
-use Rattle.script_tree.specs.declared.small.Operand.{Operand}
-use Rattle.script_tree.specs.declared.small.Operand.TheVariants as operand
+use Rattle.small_tree.specs.declared.small.Operand.{Operand}
+use Rattle.small_tree.specs.declared.small.Operand.TheVariants as operand
 use Rattle.script_tree.specs.BuiltIns.{built_in_named}
 use Rattle.script_tree.specs.Folds.{fold_atom, fold_added, fold_call, fold_compared, fold_comp, fold_conj, fold_expr, fold_factor, fold_post, fold_sum, fold_term, fold_unary, fold_block, fold_statement}
-use Rattle.script_tree.specs.Small.{operand_expr, call_expr, result_expr}
+use Rattle.small_tree.specs.Small.{operand_expr, call_expr, result_expr}
 use Rattle.flow_meaning.specs.declared.walk.Request.TheVariants as request
 use Rattle.flow_meaning.specs.Act.{Give, Ask, ◌>>=◌, all_from, all_of}
 use Rattle.flow_meaning.specs.Operators.{Text}

@@ -8,13 +8,13 @@ use Rattle.flow_base.specs.declared.value.Value.TheOpen.{Value-F}
 use Rattle.flow_base.specs.declared.value.Value.TheVariants as v
 use Rattle.flow_base.specs.declared.outcome.Exception.{Exception}
 use Rattle.flow_base.specs.declared.outcome.Outcome.{Outcome}
-use Rattle.script_tree.specs.declared.small.Operand.{Operand}
-use Rattle.script_tree.specs.declared.small.Operand.TheVariants as operand
-use Rattle.script_tree.specs.declared.small.SmallApp.{SmallApp}
-use Rattle.script_tree.specs.declared.small.SmallStatement.{SmallStatement}
-use Rattle.script_tree.specs.declared.small.SmallStatement.TheVariants as small
+use Rattle.small_tree.specs.declared.small.Operand.{Operand}
+use Rattle.small_tree.specs.declared.small.Operand.TheVariants as operand
+use Rattle.small_tree.specs.declared.small.SmallApp.{SmallApp}
+use Rattle.small_tree.specs.declared.small.SmallStatement.{SmallStatement}
+use Rattle.small_tree.specs.declared.small.SmallStatement.TheVariants as small
 use Rattle.script_tree.specs.Folds.{fold_statement}
-use Rattle.script_tree.specs.Small.{app_of, statement_of, call_expr, result_expr}
+use Rattle.small_tree.specs.Small.{app_of, statement_of, call_expr, result_expr}
 use Rattle.flow_meaning.specs.declared.walk.Request.{Request}
 use Rattle.flow_meaning.specs.declared.walk.Answer.{Answer}
 use Rattle.flow_meaning.specs.Act.{Act, Give, Ask, ◌>>=◌}

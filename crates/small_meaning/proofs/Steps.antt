@@ -6,13 +6,13 @@ use Rattle.std.proofs.lemmas.Option.{slice_get-map}
 use Rattle.flow_base.specs.declared.value.Value.{Value}
 use Rattle.flow_base.specs.declared.value.Value.TheOpen.{Value-F}
 use Rattle.flow_base.specs.declared.value.Value.TheVariants as v
-use Rattle.script_tree.specs.declared.small.Operand.{Operand}
-use Rattle.script_tree.specs.declared.small.SmallApp.{SmallApp}
-use Rattle.script_tree.specs.declared.small.SmallStatement.{SmallStatement}
-use Rattle.script_tree.specs.declared.small.SmallStatement.TheVariants as small
-use Rattle.script_tree.specs.declared.small.SmallScript.{SmallScript}
+use Rattle.small_tree.specs.declared.small.Operand.{Operand}
+use Rattle.small_tree.specs.declared.small.SmallApp.{SmallApp}
+use Rattle.small_tree.specs.declared.small.SmallStatement.{SmallStatement}
+use Rattle.small_tree.specs.declared.small.SmallStatement.TheVariants as small
+use Rattle.small_tree.specs.declared.small.SmallScript.{SmallScript}
 use Rattle.script_tree.specs.Folds.{fold_statement}
-use Rattle.script_tree.specs.Small.{app_of, main_of, tree_of, statement_of, call_expr, result_expr}
+use Rattle.small_tree.specs.Small.{app_of, main_of, tree_of, statement_of, call_expr, result_expr}
 use Rattle.flow_meaning.specs.declared.walk.Request.TheVariants as request
 use Rattle.flow_meaning.specs.Act.{Act, Give, Ask, ◌>>=◌}
 use Rattle.flow_meaning.specs.Operators.{Text}

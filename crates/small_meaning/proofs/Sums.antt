@@ -7,10 +7,10 @@ use Rattle.flow_base.specs.declared.value.Value.TheOpen.{Value-F}
 use Rattle.flow_base.specs.declared.value.Value.TheVariants as v
 use Rattle.flow_base.specs.declared.outcome.Exception.TheVariants as x
 use Rattle.script_tree.specs.declared.tree.SumOp.TheVariants.{Plus}
-use Rattle.script_tree.specs.declared.small.Operand.{Operand}
-use Rattle.script_tree.specs.declared.small.Operand.TheVariants as operand
+use Rattle.small_tree.specs.declared.small.Operand.{Operand}
+use Rattle.small_tree.specs.declared.small.Operand.TheVariants as operand
 use Rattle.script_tree.specs.Folds.{fold_atom, fold_added}
-use Rattle.script_tree.specs.Small.{operand_atom, plus_operand, sum_expr}
+use Rattle.small_tree.specs.Small.{operand_atom, plus_operand, sum_expr}
 use Rattle.flow_meaning.specs.Act.{Act, Give, Throw, ◌>>=◌}
 use Rattle.flow_meaning.specs.Operators.{Text, added, int, fits_int}
 use Rattle.flow_meaning.specs.Meaning.{Vars, meaning, value_of, sums, got}

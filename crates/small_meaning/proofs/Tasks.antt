@@ -11,8 +11,8 @@ use Rattle.flow_base.specs.declared.value.Value.TheVariants as v
 use Rattle.flow_base.specs.declared.outcome.Outcome.{Outcome}
 use Rattle.flow_base.specs.declared.outcome.Outcome.TheVariants as o
 use Rattle.flow_base.specs.Values.{units, levels, fits}
-use Rattle.script_tree.specs.declared.small.SmallApp.{SmallApp}
-use Rattle.script_tree.specs.Small.{app_of}
+use Rattle.small_tree.specs.declared.small.SmallApp.{SmallApp}
+use Rattle.small_tree.specs.Small.{app_of}
 use Rattle.flow_meaning.specs.Inputs.{Path, distinct, paths_in, inputs, are_deep}
 use Rattle.flow_meaning.specs.Evaluations.{no_losses}
 use Rattle.flow_meaning.specs.Sequential.{Task, Tasks, outcome_at, failed, failed_among, resolved, settles, outcome_of, rule}

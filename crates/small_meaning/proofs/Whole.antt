@@ -8,12 +8,12 @@ use Rattle.flow_base.specs.declared.value.Value.TheVariants as v
 use Rattle.flow_base.specs.declared.outcome.Exception.{Exception}
 use Rattle.flow_base.specs.declared.outcome.TaskEnd.{TaskEnd}
 use Rattle.script_tree.specs.declared.tree.AppDef.{AppDef}
-use Rattle.script_tree.specs.declared.small.Operand.{Operand}
-use Rattle.script_tree.specs.declared.small.SmallApp.{SmallApp}
-use Rattle.script_tree.specs.declared.small.SmallStatement.{SmallStatement}
-use Rattle.script_tree.specs.declared.small.SmallStatement.TheVariants as small
-use Rattle.script_tree.specs.declared.small.SmallScript.{SmallScript}
-use Rattle.script_tree.specs.Small.{app_of, statement_of, main_of, tree_of}
+use Rattle.small_tree.specs.declared.small.Operand.{Operand}
+use Rattle.small_tree.specs.declared.small.SmallApp.{SmallApp}
+use Rattle.small_tree.specs.declared.small.SmallStatement.{SmallStatement}
+use Rattle.small_tree.specs.declared.small.SmallStatement.TheVariants as small
+use Rattle.small_tree.specs.declared.small.SmallScript.{SmallScript}
+use Rattle.small_tree.specs.Small.{app_of, statement_of, main_of, tree_of}
 use Rattle.flow_meaning.specs.declared.walk.Request.{Request}
 use Rattle.flow_meaning.specs.declared.walk.Request.TheVariants as request
 use Rattle.flow_meaning.specs.Act.{Act, Give, Throw, Ask}

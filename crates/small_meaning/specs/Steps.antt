@@ -5,11 +5,11 @@ use Rattle.flow_base.specs.declared.value.Value.TheVariants as v
 use Rattle.flow_base.specs.declared.outcome.Exception.{Exception}
 use Rattle.flow_base.specs.declared.outcome.FileOut.{FileOut}
 use Rattle.flow_base.specs.declared.outcome.Outcome.TheVariants as outcome
-use Rattle.script_tree.specs.declared.small.SmallApp.{SmallApp}
-use Rattle.script_tree.specs.declared.small.SmallScript.{SmallScript}
-use Rattle.script_tree.specs.declared.small.SmallStatement.{SmallStatement}
+use Rattle.small_tree.specs.declared.small.SmallApp.{SmallApp}
+use Rattle.small_tree.specs.declared.small.SmallScript.{SmallScript}
+use Rattle.small_tree.specs.declared.small.SmallStatement.{SmallStatement}
 use Rattle.script_tree.specs.Folds.{fold_statement}
-use Rattle.script_tree.specs.Small.{app_of, statement_of}
+use Rattle.small_tree.specs.Small.{app_of, statement_of}
 use Rattle.flow_meaning.specs.declared.walk.Answer.{Answer}
 use Rattle.flow_meaning.specs.declared.walk.Answer.TheVariants as answer
 use Rattle.flow_meaning.specs.declared.walk.Request.TheVariants as request

@@ -4,11 +4,11 @@ use Rattle.std.proofs.lemmas.List.{length-map}
 use Rattle.script_tree.specs.declared.token.Token.TheVariants as t
 use Rattle.script_tree.specs.declared.token.Keyword.TheVariants as w
 use Rattle.script_tree.specs.declared.token.Symbol.TheVariants as s
-use Rattle.script_tree.specs.declared.small.Operand.{Operand}
-use Rattle.script_tree.specs.declared.small.SmallApp.{SmallApp}
-use Rattle.script_tree.specs.declared.small.SmallStatement.{SmallStatement}
-use Rattle.script_tree.specs.declared.small.SmallStatement.TheVariants as small
-use Rattle.script_tree.specs.declared.small.SmallScript.{SmallScript}
+use Rattle.small_tree.specs.declared.small.Operand.{Operand}
+use Rattle.small_tree.specs.declared.small.SmallApp.{SmallApp}
+use Rattle.small_tree.specs.declared.small.SmallStatement.{SmallStatement}
+use Rattle.small_tree.specs.declared.small.SmallStatement.TheVariants as small
+use Rattle.small_tree.specs.declared.small.SmallScript.{SmallScript}
 use Rattle.script_tree.specs.declared.fault.SyntaxFault.{SyntaxFault}
 use Rattle.script_tree.specs.Lexing.{Text, lex}
 use Rattle.script_tree.specs.Grammar.{Placed, HasTree, max_text}
@@ -17,7 +17,7 @@ use Rattle.parser_model.proofs.Least.{Ordered}
 use Rattle.parser_model.proofs.Places.{lexed_ordered}
 use Rattle.small_rules.specs.SmallRules.{script_is_right}
 use Rattle.small_rules.proofs.SmallFaults.{right-well_formed}
-use Rattle.script_tree.specs.Small.{tree_of}
+use Rattle.small_tree.specs.Small.{tree_of}
 use Rattle.script_tree.specs.Spelling as spelling
 use Rattle.script_tree.specs.Spelling.{Tokens}
 use Rattle.small_rules.specs.SmallTokens.{operand_token, closed, closed_more, terms, body, app, statement, each, statements, script}

@@ -4,19 +4,19 @@ use Rattle.std.specs.Prelude.{◌↔◌, IsTrue, bytes_eq, nat_eq, nat_le}
 use Rattle.std.specs.List.{list_any, list_all}
 use Rattle.std.proofs.lemmas.Bool.Decides.{nat_tests}
 use Rattle.script_tree.specs.declared.tree.AppDef.{AppDef}
-use Rattle.script_tree.specs.declared.small.Operand.{Operand}
-use Rattle.script_tree.specs.declared.small.Operand.TheVariants as operand
-use Rattle.script_tree.specs.declared.small.SmallApp.{SmallApp}
-use Rattle.script_tree.specs.declared.small.SmallStatement.{SmallStatement}
-use Rattle.script_tree.specs.declared.small.SmallStatement.TheVariants as small
-use Rattle.script_tree.specs.declared.small.SmallScript.{SmallScript}
+use Rattle.small_tree.specs.declared.small.Operand.{Operand}
+use Rattle.small_tree.specs.declared.small.Operand.TheVariants as operand
+use Rattle.small_tree.specs.declared.small.SmallApp.{SmallApp}
+use Rattle.small_tree.specs.declared.small.SmallStatement.{SmallStatement}
+use Rattle.small_tree.specs.declared.small.SmallStatement.TheVariants as small
+use Rattle.small_tree.specs.declared.small.SmallScript.{SmallScript}
 use Rattle.script_tree.specs.BuiltIns.{built_in_named}
 use Rattle.script_tree.specs.Marks.{Name, Marks, Other, Opens, Closes, MakesVisible, Applies, Takes, Main}
 use Rattle.script_tree.specs.declared.body_kind.BodyKind.TheVariants.{Plain, OfMain}
 use Rattle.script_tree.specs.declared.fault.Rule.{Rule}
 use Rattle.script_tree.specs.declared.fault.Rule.TheVariants as rule
 use Rattle.script_tree.specs.Rules.{State, behind, broken_if, faults_at, faults_from, faults, call_faults, app_named, IsWellFormed, max_count}
-use Rattle.script_tree.specs.Small.{tree_of, app_of}
+use Rattle.small_tree.specs.Small.{tree_of, app_of}
 use Rattle.small_rules.specs.SmallRules.{is_among, are_distinct_from, are_distinct, is_parameter, are_parameters, is_right_alone, is_defined, are_right_behind, apps_are_right, declares, is_declared, is_visible, are_visible, takes_from, takes, is_right, statements_are_right_behind, main_is_right, script_is_right}
 use Rattle.small_rules.proofs.SmallMarks.{operand_mark, closed, closed_more, terms, body, parameters, app, apps, statement_in, statements, script, script-marks}
 

@@ -19,10 +19,10 @@ use Rattle.script_tree.specs.declared.tree.Block.{roll-Block, fold-roll-Block}
 use Rattle.script_tree.specs.declared.tree.Statement.{Statement, fold-roll-Statement}
 use Rattle.script_tree.specs.declared.tree.Statement.TheVariants as statement
 use Rattle.script_tree.specs.declared.tree.Statement.TheOpen.{Statement-F}
-use Rattle.script_tree.specs.declared.small.Operand.{Operand}
-use Rattle.script_tree.specs.declared.small.Operand.TheVariants as operand
+use Rattle.small_tree.specs.declared.small.Operand.{Operand}
+use Rattle.small_tree.specs.declared.small.Operand.TheVariants as operand
 use Rattle.script_tree.specs.Folds.{Steps, fold_atom, fold_added, fold_call, fold_comp, fold_compared, fold_conj, fold_expr, fold_factor, fold_post, fold_sum, fold_term, fold_unary, BlockSteps, fold_block, fold_statement}
-use Rattle.script_tree.specs.Small.{term_of, expr_of, alone, operand_atom, plus_operand, sum_expr, operand_expr, call_expr, result_expr}
+use Rattle.small_tree.specs.Small.{term_of, expr_of, alone, operand_atom, plus_operand, sum_expr, operand_expr, call_expr, result_expr}
 
 module _ {C : Type 0} (s : Steps C) where
   post-rolled : (x : Atom) → fold_post s (roll-Post (record { atom = x; indices = [] })) ≡ s.post (record { atom = fold_atom s x; indices = [] })

@@ -3,16 +3,16 @@ use Rattle.std.proofs.Common.{◌≡◌, ℕ, suc, List, [], ◌∷◌, ◌++◌
 use Rattle.std.specs.List.{flat_map}
 use Rattle.script_tree.specs.declared.tree.SumOp.{SumOp}
 use Rattle.script_tree.specs.declared.tree.Statement.TheVariants as statement
-use Rattle.script_tree.specs.declared.small.Operand.{Operand}
-use Rattle.script_tree.specs.declared.small.Operand.TheVariants as operand
-use Rattle.script_tree.specs.declared.small.SmallApp.{SmallApp}
-use Rattle.script_tree.specs.declared.small.SmallStatement.{SmallStatement}
-use Rattle.script_tree.specs.declared.small.SmallStatement.TheVariants as small
-use Rattle.script_tree.specs.declared.small.SmallScript.{SmallScript}
+use Rattle.small_tree.specs.declared.small.Operand.{Operand}
+use Rattle.small_tree.specs.declared.small.Operand.TheVariants as operand
+use Rattle.small_tree.specs.declared.small.SmallApp.{SmallApp}
+use Rattle.small_tree.specs.declared.small.SmallStatement.{SmallStatement}
+use Rattle.small_tree.specs.declared.small.SmallStatement.TheVariants as small
+use Rattle.small_tree.specs.declared.small.SmallScript.{SmallScript}
 use Rattle.script_tree.specs.Folds.{fold_statement}
 use Rattle.script_tree.specs.Marks.{Name, Mark, Marks, InBlock, Other, Opens, Closes, Declares, MakesVisible, Uses, Applies, Calls, NamesApp, MainOnly, Defines, Takes, Main, expr_marks, block_marks, listed, parameters_from, apps_from, expr, block}
 use Rattle.script_tree.specs.Marks as marks
-use Rattle.script_tree.specs.Small.{sum_expr, call_expr, result_expr, statement_of, app_body, app_of, main_of, tree_of}
+use Rattle.small_tree.specs.Small.{sum_expr, call_expr, result_expr, statement_of, app_body, app_of, main_of, tree_of}
 use Rattle.small_rules.proofs.SmallFolds.{whole, atom_term, operand_step, plus_steps, argument_steps, sum_expr-folded, call_expr-folded, result_expr-folded, block-folded, let-folded, print-folded, return-folded}
 
 -- ---- the lists

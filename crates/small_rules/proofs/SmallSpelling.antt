@@ -6,16 +6,16 @@ use Rattle.script_tree.specs.declared.token.Keyword.TheVariants as w
 use Rattle.script_tree.specs.declared.token.Symbol.TheVariants as s
 use Rattle.script_tree.specs.declared.tree.SumOp.{SumOp}
 use Rattle.script_tree.specs.declared.tree.Statement.TheVariants as statement
-use Rattle.script_tree.specs.declared.small.Operand.{Operand}
-use Rattle.script_tree.specs.declared.small.Operand.TheVariants as operand
-use Rattle.script_tree.specs.declared.small.SmallApp.{SmallApp}
-use Rattle.script_tree.specs.declared.small.SmallStatement.{SmallStatement}
-use Rattle.script_tree.specs.declared.small.SmallStatement.TheVariants as small
-use Rattle.script_tree.specs.declared.small.SmallScript.{SmallScript}
+use Rattle.small_tree.specs.declared.small.Operand.{Operand}
+use Rattle.small_tree.specs.declared.small.Operand.TheVariants as operand
+use Rattle.small_tree.specs.declared.small.SmallApp.{SmallApp}
+use Rattle.small_tree.specs.declared.small.SmallStatement.{SmallStatement}
+use Rattle.small_tree.specs.declared.small.SmallStatement.TheVariants as small
+use Rattle.small_tree.specs.declared.small.SmallScript.{SmallScript}
 use Rattle.script_tree.specs.Folds.{fold_statement}
 use Rattle.script_tree.specs.Spelling.{Tokens, expr_tokens, block_tokens, listed, names_of, sum_symbol, expr, call, block}
 use Rattle.script_tree.specs.Spelling as spelling
-use Rattle.script_tree.specs.Small.{sum_expr, call_expr, result_expr, statement_of, app_body, app_of, main_of, tree_of}
+use Rattle.small_tree.specs.Small.{sum_expr, call_expr, result_expr, statement_of, app_body, app_of, main_of, tree_of}
 use Rattle.small_rules.proofs.SmallFolds.{whole, atom_term, operand_step, plus_steps, argument_steps, sum_expr-folded, call_expr-folded, result_expr-folded, block-folded, let-folded, print-folded, return-folded}
 use Rattle.small_rules.specs.SmallTokens.{operand_token, closed, closed_more, terms, body, app, statement, each, statements, script}
 

@@ -1,12 +1,12 @@
 -- A small statement that is a `let` keeps a call.
 use Rattle.std.proofs.Common.{◌≡◌, ℕ, List, sym, ap, ◌∙◌}
-use Rattle.script_tree.specs.Small.{statement_of, call_expr, result_expr}
+use Rattle.small_tree.specs.Small.{statement_of, call_expr, result_expr}
 use Rattle.script_tree.specs.declared.tree.Expr.{Expr}
 use Rattle.script_tree.specs.declared.tree.Statement.{out-Statement, out-roll-Statement}
 use Rattle.script_tree.specs.declared.tree.Statement.TheOpen.{Statement-F}
 use Rattle.script_tree.specs.declared.tree.Statement.TheVariants as statement
-use Rattle.script_tree.specs.declared.small.SmallStatement.{SmallStatement}
-use Rattle.script_tree.specs.declared.small.SmallStatement.TheVariants as small
+use Rattle.small_tree.specs.declared.small.SmallStatement.{SmallStatement}
+use Rattle.small_tree.specs.declared.small.SmallStatement.TheVariants as small
 use Rattle.small_scripts.specs.Reading.{app_call_expr}
 use Rattle.small_scripts.specs.declared.statement.AppCall.{AppCall}
 

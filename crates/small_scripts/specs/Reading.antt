@@ -1,10 +1,10 @@
 -- What it means to read a tree as a small script, or a part of a tree as a part of one.
 use Rattle.std.specs.Prelude.{◌≡◌, Option, Some, None}
 use Rattle.script_tree.specs.Grammar.{Tree}
-use Rattle.script_tree.specs.Small.{IsSmall, tree_of, sum_expr, app_body, call_expr}
+use Rattle.small_tree.specs.Small.{IsSmall, tree_of, sum_expr, app_body, call_expr}
 use Rattle.script_tree.specs.declared.tree.Expr.{Expr}
 use Rattle.script_tree.specs.declared.tree.Block.{Block}
-use Rattle.script_tree.specs.declared.small.SmallScript.{SmallScript}
+use Rattle.small_tree.specs.declared.small.SmallScript.{SmallScript}
 use Rattle.small_scripts.specs.declared.app.Total.{Total}
 use Rattle.small_scripts.specs.declared.statement.AppCall.{AppCall}
 

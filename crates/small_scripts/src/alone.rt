@@ -1,7 +1,7 @@
 //! Expressions that are a sum alone, and terms that are an atom alone.
 
 ghost use Rattle.std.specs.Option.{option_copied};
-ghost use Rattle.script_tree.specs.Small.{term_of, expr_of, alone};
+ghost use Rattle.small_tree.specs.Small.{term_of, expr_of, alone};
 ghost use Rattle.small_scripts.specs.Reading.{IsPartOf};
 
 use script_tree::tree::{Atom, Expr, Sum, Term};

@@ -1,13 +1,13 @@
 //! Apps that return a sum.
 
 ghost use Rattle.std.specs.Prelude.{◌≡◌, map, IfOk};
-ghost use Rattle.script_tree.specs.Small.{app_of};
+ghost use Rattle.small_tree.specs.Small.{app_of};
 ghost use Rattle.small_scripts.specs.Reading.{IsPartOf, total_expr, total_body};
 
 use crate::alone::{sum_alone, term_atom};
 use crate::operand::{added_operands, operand};
 use flow_base::Names;
-use script_tree::small::{Operand, SmallApp};
+use small_tree::small::{Operand, SmallApp};
 use script_tree::tree::{AppDef, Block, Expr, Statement};
 use sqlite_items::Items as ListOf;
 use std::alloc::{AllocError, Global};

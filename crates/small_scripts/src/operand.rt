@@ -1,11 +1,11 @@
 //! Operands, and lists of them.
 
 ghost use Rattle.std.specs.Prelude.{map, IfOk};
-ghost use Rattle.script_tree.specs.Small.{operand_atom, plus_operand, operand_expr};
+ghost use Rattle.small_tree.specs.Small.{operand_atom, plus_operand, operand_expr};
 ghost use Rattle.small_scripts.specs.Reading.{IsPartOf};
 
 use crate::alone::{atom_alone, term_atom};
-use script_tree::small::Operand;
+use small_tree::small::Operand;
 use script_tree::tree::{Added, Atom, Expr, SumOp};
 use sqlite_items::Items as ListOf;
 use std::alloc::{AllocError, Global};

@@ -5,7 +5,7 @@ ghost use Rattle.small_scripts.specs.Reading.{IsReadAs};
 
 use crate::app::small_apps;
 use crate::statement::small_statements;
-use script_tree::small::SmallScript;
+use small_tree::small::SmallScript;
 use script_tree::tree::{AppDef, Block};
 use std::alloc::{AllocError, Global};
 

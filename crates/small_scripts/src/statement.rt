@@ -2,12 +2,12 @@
 
 ghost use Rattle.std.specs.Prelude.{map, IfOk};
 ghost use Rattle.std.specs.Option.{option_copied};
-ghost use Rattle.script_tree.specs.Small.{result_expr, statement_of};
+ghost use Rattle.small_tree.specs.Small.{result_expr, statement_of};
 ghost use Rattle.small_scripts.specs.Reading.{IsPartOf, app_call_expr};
 
 use crate::alone::atom_alone;
 use crate::operand::arguments;
-use script_tree::small::{Operand, SmallStatement};
+use small_tree::small::{Operand, SmallStatement};
 use script_tree::tree::{Atom, Expr, Name, Statement};
 use sqlite_items::Items as ListOf;
 use std::alloc::{AllocError, Global};

@@ -2,7 +2,7 @@
 
 use crate::small_script;
 use flow_base::Text;
-use script_tree::small::{Operand, SmallApp, SmallScript, SmallStatement};
+use small_tree::small::{Operand, SmallApp, SmallScript, SmallStatement};
 use script_tree::tree::{
     Added, AppDef, Atom, Block, CallExpr, Comp, Conj, Expr, Name, Post, Statement, Sum, SumOp,
     Term, Unary,

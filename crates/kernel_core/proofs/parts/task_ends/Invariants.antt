@@ -1,5 +1,5 @@
 use Rattle.std.proofs.Common.{◌≡◌, ◌++◌, map}
-use Rattle.script_tree.specs.Small.{app_of}
+use Rattle.small_tree.specs.Small.{app_of}
 use Rattle.kernel_core.specs.Parts.{ends_in}
 use Rattle.kernel_core.proofs.parts.task_ends.Given as goal
 

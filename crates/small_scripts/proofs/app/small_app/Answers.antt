@@ -1,5 +1,5 @@
 use Rattle.std.proofs.Common.{ap, subst, None}
-use Rattle.script_tree.specs.Small.{app_of}
+use Rattle.small_tree.specs.Small.{app_of}
 use Rattle.small_scripts.specs.Reading.{IsPartOf, total_body}
 use Rattle.small_scripts.proofs.app.small_app.Goals as goal
 

@@ -1,4 +1,4 @@
-use Rattle.script_tree.specs.Small.{app_of}
+use Rattle.small_tree.specs.Small.{app_of}
 use Rattle.small_scripts.proofs.Lists.{no_list}
 use Rattle.small_scripts.proofs.app.small_apps.Goals as goal
 

@@ -1,5 +1,5 @@
 use Rattle.std.proofs.Common.{◌≡◌, map, take}
-use Rattle.script_tree.specs.Small.{app_of}
+use Rattle.small_tree.specs.Small.{app_of}
 use Rattle.small_scripts.proofs.app.small_apps.Given as goal
 
 abbrev pub invariant-loop-one : goal.invariant-loop-one

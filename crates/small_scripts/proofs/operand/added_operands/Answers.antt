@@ -1,4 +1,4 @@
-use Rattle.script_tree.specs.Small.{plus_operand}
+use Rattle.small_tree.specs.Small.{plus_operand}
 use Rattle.small_scripts.proofs.Lists.{no_list}
 use Rattle.small_scripts.proofs.operand.added_operands.Goals as goal
 

@@ -1,5 +1,5 @@
 use Rattle.std.proofs.Common.{◌≡◌, map, take}
-use Rattle.script_tree.specs.Small.{plus_operand}
+use Rattle.small_tree.specs.Small.{plus_operand}
 use Rattle.small_scripts.proofs.operand.added_operands.Given as goal
 
 abbrev pub invariant-loop-one : goal.invariant-loop-one

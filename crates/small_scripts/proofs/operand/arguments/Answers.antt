@@ -1,4 +1,4 @@
-use Rattle.script_tree.specs.Small.{operand_expr}
+use Rattle.small_tree.specs.Small.{operand_expr}
 use Rattle.small_scripts.proofs.Lists.{no_list}
 use Rattle.small_scripts.proofs.operand.arguments.Goals as goal
 

@@ -1,5 +1,5 @@
 use Rattle.std.proofs.Common.{◌≡◌, map, take}
-use Rattle.script_tree.specs.Small.{operand_expr}
+use Rattle.small_tree.specs.Small.{operand_expr}
 use Rattle.small_scripts.proofs.operand.arguments.Given as goal
 
 abbrev pub invariant-loop-expr : goal.invariant-loop-expr

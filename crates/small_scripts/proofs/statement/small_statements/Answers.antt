@@ -1,4 +1,4 @@
-use Rattle.script_tree.specs.Small.{statement_of}
+use Rattle.small_tree.specs.Small.{statement_of}
 use Rattle.small_scripts.proofs.Lists.{no_list}
 use Rattle.small_scripts.proofs.statement.small_statements.Goals as goal
 

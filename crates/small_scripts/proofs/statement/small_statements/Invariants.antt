@@ -1,5 +1,5 @@
 use Rattle.std.proofs.Common.{◌≡◌, map, take}
-use Rattle.script_tree.specs.Small.{statement_of}
+use Rattle.small_tree.specs.Small.{statement_of}
 use Rattle.small_scripts.proofs.statement.small_statements.Given as goal
 
 abbrev pub invariant-loop-one : goal.invariant-loop-one

@@ -1,7 +1,7 @@
 use Rattle.std.proofs.Common.{◌≡◌, IfOk, List, map, refl, ◌∙◌, ap, subst}
 use Rattle.flow_base.specs.declared.outcome.Evaluation.{Evaluation}
-use Rattle.script_tree.specs.declared.small.SmallApp.{SmallApp}
-use Rattle.script_tree.specs.Small.{app_of}
+use Rattle.small_tree.specs.declared.small.SmallApp.{SmallApp}
+use Rattle.small_tree.specs.Small.{app_of}
 use Rattle.kernel_core.specs.Parts.{parts_of}
 use Rattle.kernel_core.proofs.Parting.{parts_are}
 use Rattle.kernel_core.proofs.kernel.Kernel.into_parts.Goals as goal

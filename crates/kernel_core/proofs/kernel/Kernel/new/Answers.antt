@@ -1,6 +1,6 @@
 use Rattle.std.proofs.Common.{◌≡◌, sym, ◌∙◌, refl, arith}
 use Rattle.std.specs.Arc.{arc_value}
-use Rattle.script_tree.specs.Small.{tree_of}
+use Rattle.small_tree.specs.Small.{tree_of}
 use Rattle.kernel_model.proofs.KeepingMain.{keep-start}
 use Rattle.kernel_core.proofs.SmallTrees.{same-tree}
 use Rattle.kernel_core.proofs.kernel.Kernel.new.Goals as goal

@@ -1,6 +1,6 @@
 use Rattle.std.proofs.Common.{◌≡◌, length, map, subst, ap, refl, sym, ◌∙◌, arith}
 use Rattle.std.specs.Prelude.{slice_get}
-use Rattle.script_tree.specs.Small.{app_of}
+use Rattle.small_tree.specs.Small.{app_of}
 use Rattle.flow_meaning.specs.Evaluations.{name_in}
 use Rattle.kernel_model.specs.Known.{Known, path_of}
 use Rattle.kernel_model.specs.Invariants.{Inv}

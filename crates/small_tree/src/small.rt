@@ -1,7 +1,7 @@
 //! Small scripts: apps that return a sum of parameters and numbers, and a main that calls them and
 //! prints their results.
 
-use crate::tree::Name;
+use script_tree::tree::Name;
 use sqlite_items::Items as ListOf;
 
 /// A parameter or a variable, or a number.
