@@ -3,3 +3,4 @@ pub mod Groups
 pub mod Laws
 pub mod Orders
 pub mod Told
+pub mod PlainScripts

@@ -16,6 +16,7 @@ managed_text path attempt manager = attempt_text path attempt ++ codes " manager
 
 abbrev pub entry_text : Entry → List ℕ
 entry_text (entry.Submit path app) = codes "submit " ++ path_text path ++ codes " " ++ app
+entry_text (entry.JoinRun path) = codes "join " ++ path_text path
 entry_text (entry.Launch path attempt) = codes "launch " ++ attempt_text path attempt
 entry_text (entry.Start path attempt manager) = codes "start " ++ managed_text path attempt manager
 entry_text (entry.Ended path attempt manager ended) = codes "ended " ++ managed_text path attempt manager ++ codes " " ++ ended

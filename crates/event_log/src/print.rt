@@ -41,6 +41,10 @@ fn print_entry(writer: &mut Writer, entry: &Entry) -> Result<(), AllocError>
             writer.add(b" ")?;
             writer.add(app.as_slice())
         }
+        Entry::JoinRun { path } => {
+            writer.add(b"join ")?;
+            writer.path(path)
+        }
         Entry::Launch { path, attempt } => {
             writer.add(b"launch ")?;
             print_attempt(writer, path, *attempt)

@@ -129,6 +129,34 @@ const FAILED_CALL: &str = "ended 1.12 try 3 manager 2 ZeroDivisionError
 settled 1.12 failed
 ";
 
+fn join_and_its_call(alloc: Global) -> Result<Entries, AllocError> {
+    let mut entries = Entries::new(alloc);
+    entries.push(Entry::JoinRun {
+        path: task(alloc, 1)?,
+    })?;
+    entries.push(Entry::Submit {
+        path: call_of_a_join(alloc)?,
+        app: Text::of(alloc, "add")?,
+    })?;
+    entries.push(Entry::JoinRun {
+        path: call_of_a_join(alloc)?,
+    })?;
+    Ok(entries)
+}
+
+// The call is a join too.
+const JOIN_AND_ITS_CALL: &str = "join 1
+submit 1.12 add
+join 1.12
+";
+
+#[test]
+fn the_log_of_a_join_and_its_call(rt: HostRuntime) -> Result<(), Fail> {
+    let entries = join_and_its_call(rt.alloc())?;
+    assert_eq!(rt; printed(rt.alloc(), &entries)?.as_str(), JOIN_AND_ITS_CALL);
+    Ok(())
+}
+
 #[test]
 fn the_log_of_a_failed_call(rt: HostRuntime) -> Result<(), Fail> {
     let entries = failed_call(rt.alloc())?;

@@ -9,8 +9,9 @@ use Rattle.flow_meaning.specs.Operators.{Text}
 use Rattle.history_laws.specs.declared.table.Expected.{Expected}
 use Rattle.history_laws.specs.declared.table.Retries.{Retries}
 use Rattle.history_laws.specs.declared.table.Table.{Table}
+use Rattle.call_rules.specs.Calls.{child}
 use Rattle.history_laws.specs.Tables.{task_at, calls_in, waits_before}
-use Rattle.history_laws.specs.Reads.{History, is_submitted, submits, settled, launches, Stage, Unlaunched, Waiting, Running, Over, stage, last_try, value_word, costs, has_end}
+use Rattle.history_laws.specs.Reads.{History, is_submitted, has_joined, due, submits, settled, launches, Stage, Unlaunched, Waiting, Running, Over, stage, last_try, value_word, costs, has_end}
 
 -- all of these paths have settled
 abbrev pub AllSettled : List Path → History → Type 0
@@ -45,17 +46,44 @@ pub record SettledStands (z : Table) (b : History) (p : Path) (s : Status) : Typ
   pub once : settled p b ≡ None
   pub state : s ≡ task.status
   pub inputs : AllSettled task.inputs b
+  -- a join, after its body ran and all that it returned has settled
+  pub joined : task.joins ≡ true → (has_joined p b ≡ true) × AllSettled task.awaits b
 
 -- every task is submitted and settled
 pub record IsOver (z : Table) (b : History) : Type 0 where
   pub submitted : (p : Path) → IsSome (task_at z p) → is_submitted p b ≡ true
   pub settled : (p : Path) → IsSome (task_at z p) → IsSome (settled p b)
 
-abbrev pub SettlingStands : Table → History → Entry → Type 0
-SettlingStands z b (entry.Submit p app) = SubmitStands z b p app
-SettlingStands z b (entry.Settled p s) = SettledStands z b p s
-SettlingStands z b entry.End = IsOver z b
-SettlingStands z b _ = Unit {0}
+-- how many calls the body of the task of this path makes
+abbrev pub calls_in_task : Option Expected → ℕ
+calls_in_task None = 0
+calls_in_task (Some task) = task.calls
+
+abbrev pub calls_at : Table → Path → ℕ
+calls_at z p = calls_in_task (task_at z p)
+
+-- no call of a join is still to be submitted
+abbrev pub IsFree : Table → History → Type 0
+IsFree z b = (p : Path) (k : ℕ) → due b ≡ Some (p, k) → calls_at z p ≤ k
+
+abbrev pub OwnStands : Table → History → Entry → Type 0
+OwnStands z b (entry.Submit p app) = SubmitStands z b p app
+OwnStands z b (entry.Settled p s) = SettledStands z b p s
+OwnStands z b entry.End = IsOver z b
+OwnStands z b _ = Unit {0}
+
+-- the next call of a join whose body ran
+pub record ChildStands (z : Table) (b : History) (caller : Path) (k : ℕ) (e : Entry) : Type 0 where
+  pub due : due b ≡ Some (caller, k)
+  pub more : k < calls_at z caller
+  pub task : Expected
+  pub there : task_at z (child caller k) ≡ Some task
+  pub is : e ≡ entry.Submit (child caller k) task.app
+
+-- The run of a join is followed directly by the submissions of its calls in order. Else an entry stands by its own law.
+pub data SettlingStands (z : Table) (b : History) (e : Entry) : Type 0 where
+  follows : (caller : Path) (k : ℕ) → ChildStands z b caller k e → SettlingStands z b e
+  stands : IsFree z b → OwnStands z b e → SettlingStands z b e
 
 -- nothing stands behind the end
 pub record SettlingLaw (z : Table) (b : History) (e : Entry) : Type 0 where
@@ -73,8 +101,19 @@ pub record LaunchStands (z : Table) (b : History) (p : Path) : Type 0 where
   pub inputs : AllValued task.inputs b
   pub runs : task.runs ≡ true
 
+-- The body of a submitted, unsettled join runs, once, as soon as its inputs have values.
+pub record JoinRunStands (z : Table) (b : History) (p : Path) : Type 0 where
+  pub task : Expected
+  pub is : task_at z p ≡ Some task
+  pub submitted : is_submitted p b ≡ true
+  pub unsettled : settled p b ≡ None
+  pub once : has_joined p b ≡ false
+  pub inputs : AllValued task.inputs b
+  pub joins : task.joins ≡ true
+
 abbrev pub LaunchLaw : Table → History → Entry → Type 0
 LaunchLaw z b (entry.Launch p n) = LaunchStands z b p
+LaunchLaw z b (entry.JoinRun p) = JoinRunStands z b p
 LaunchLaw z b _ = Unit {0}
 
 -- ---- attempts

@@ -1,6 +1,6 @@
 -- What is read from a history. Definitions have the newest entry of a history first, so that the entries
 -- before one are the rest of the list.
-use Rattle.std.specs.Prelude.{ℕ, ◌+◌, Bool, true, false, if◌then◌else◌, List, [], ◌∷◌, Option, Some, None, bytes_eq, codes, reverse}
+use Rattle.std.specs.Prelude.{ℕ, suc, ◌+◌, Bool, true, false, if◌then◌else◌, List, [], ◌∷◌, Option, Some, None, bytes_eq, codes, reverse}
 use Rattle.task_record.specs.declared.status.Status.{Status}
 use Rattle.event_log.specs.declared.entry.Entry.{Entry}
 use Rattle.event_log.specs.declared.entry.Entry.TheVariants as entry
@@ -41,6 +41,28 @@ abbrev pub settled : Path → History → Option Status
 settled p [] = None
 settled p (entry.Settled q status ∷ b) = if bytes_eq p q then Some status else settled p b
 settled p (e ∷ b) = settled p b
+
+-- ---- joins
+
+-- the body of a join ran
+abbrev pub has_joined : Path → History → Bool
+has_joined p [] = false
+has_joined p (entry.JoinRun q ∷ b) = if bytes_eq p q then true else has_joined p b
+has_joined p (e ∷ b) = has_joined p b
+
+-- the join whose calls are being submitted, and how many are
+abbrev pub Due : Type 0
+Due = Option (Path × ℕ)
+
+abbrev pub one_more : Due → Due
+one_more None = None
+one_more (Some d) = Some (d.0, suc d.1)
+
+abbrev pub due : History → Due
+due [] = None
+due (entry.JoinRun p ∷ b) = Some (p, 0)
+due (entry.Submit q app ∷ b) = one_more (due b)
+due (e ∷ b) = None
 
 -- ---- attempts
 

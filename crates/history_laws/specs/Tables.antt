@@ -1,21 +1,20 @@
 -- The table that the laws read: what the sequential evaluation says of each task, and main's acts.
-use Rattle.std.specs.Prelude.{ℕ, zero, suc, ◌+◌, Bool, true, false, not, ◌&&◌, if◌then◌else◌, List, [], ◌∷◌, map, flat_map, Option, Some, None, bytes_eq, slice_get}
-use Rattle.std.specs.List.{list_all}
+use Rattle.std.specs.Prelude.{ℕ, zero, suc, ◌+◌, Bool, true, false, if◌then◌else◌, List, [], ◌∷◌, length, map, flat_map, Option, Some, None, bytes_eq, slice_get}
 use Rattle.flow_base.specs.declared.outcome.Ended.{Ended}
 use Rattle.flow_base.specs.declared.outcome.Ended.TheVariants as ended
 use Rattle.flow_base.specs.declared.outcome.Exception.TheVariants as x
 use Rattle.flow_base.specs.declared.outcome.Outcome.{Outcome}
 use Rattle.flow_base.specs.declared.outcome.Outcome.TheVariants as o
 use Rattle.flow_base.specs.Exceptions.{exception_name}
-use Rattle.flow_base.specs.Values.{fits}
 use Rattle.script_tree.specs.declared.tree.AppDef.{AppDef}
 use Rattle.script_tree.specs.Grammar.{Tree}
 use Rattle.task_record.specs.declared.status.Status.{Status}
 use Rattle.task_record.specs.declared.status.Status.TheVariants as status
-use Rattle.flow_meaning.specs.Inputs.{Path, are_deep}
+use Rattle.flow_meaning.specs.Inputs.{Path}
 use Rattle.flow_meaning.specs.Operators.{Text}
-use Rattle.flow_meaning.specs.Sequential.{Task, Tasks, failed_among, resolved, apply, MainAct, Calls, Waits, Sequential, seq}
+use Rattle.flow_meaning.specs.Sequential.{Task, Tasks, apply, MainAct, Calls, Waits, Sequential, seq}
 use Rattle.flow_meaning.specs.Evaluations.{name_in}
+use Rattle.call_rules.specs.Calls.{Begin, Attempts, Joins, begin, calls_below, awaits, call_in}
 use Rattle.history_laws.specs.Reads.{value_word}
 use Rattle.history_laws.specs.declared.table.MainEvent.{MainEvent}
 use Rattle.history_laws.specs.declared.table.MainEvent.TheVariants as act
@@ -57,29 +56,31 @@ status_of (o.Value value files) = status.ExecDone
 status_of (o.Failed (x.DependencyError paths)) = status.DepFail
 status_of (o.Failed exception) = status.Failed
 
-abbrev pub is_empty : List Path → Bool
-is_empty [] = true
-is_empty (p ∷ ps) = false
+-- it gets its outcome by an attempt
+abbrev pub is_attempt : Begin → Bool
+is_attempt (Attempts app values) = true
+is_attempt _ = false
 
--- its arguments and inputs settle the task by no rule
-abbrev pub is_ready : Tasks → Task → Bool
-is_ready ts t = not (are_deep t.arguments) && is_empty (failed_among ts t.inputs) && list_all fits (resolved ts t.arguments)
+-- it gets its outcome by the calls of its body
+abbrev pub is_join : Begin → Bool
+is_join (Joins app values) = true
+is_join _ = false
 
-abbrev pub joins : Option AppDef → Bool
-joins (Some app) = app.join
-joins None = true
-
-abbrev pub kind_in : Option AppDef → Tasks → Task → Text
-kind_in (Some app) ts t = kind_of (apply app (resolved ts t.arguments) t.names)
-kind_in None ts t = []
+-- how its body ends
+abbrev pub kind_with : List Text → Begin → Text
+kind_with names (Attempts app values) = kind_of (apply app values names)
+kind_with names _ = []
 
 abbrev pub expected : List AppDef → Tasks → Task → Expected
 expected apps ts t = record {
   path = t.path;
   app = name_in (slice_get apps t.app);
   inputs = t.inputs;
-  runs = is_ready ts t && not (joins (slice_get apps t.app));
-  kind = kind_in (slice_get apps t.app) ts t;
+  runs = is_attempt (begin apps ts (call_in t));
+  joins = is_join (begin apps ts (call_in t));
+  calls = length (calls_below apps ts (call_in t));
+  awaits = awaits apps ts (call_in t);
+  kind = kind_with t.names (begin apps ts (call_in t));
   status = status_of t.outcome;
 }
 

@@ -14,7 +14,14 @@ pub struct Expected {
     pub inputs: Paths,
     /// Whether it gets its outcome by an attempt.
     pub runs: bool,
-    /// How its body ends: the word `value`, or the name of its exception.
+    /// Whether it gets its outcome by the calls of its body.
+    pub joins: bool,
+    /// How many calls its body makes.
+    pub calls: u32,
+    /// The paths that it waits for once its body ran.
+    pub awaits: Paths,
+    /// How its body ends, where it gets its outcome by an attempt: the word `value`, or the name of its
+    /// exception. Empty for every other task.
     pub kind: Text,
     /// The state in which it settles.
     pub status: Status,

@@ -1,3 +1,4 @@
+pub mod Calls
 pub mod Progress
 pub mod Rows
 pub mod Scan

@@ -3,25 +3,35 @@
 ghost use Rattle.std.specs.Prelude.{◌≡◌, ◌+◌, ◌↔◌, ◌∷◌, [], suc, true, IsTrue, Some, None, reverse, option_map};
 ghost use Rattle.history_laws.specs.declared.table.Expected.{Expected};
 ghost use Rattle.history_laws.specs.Tables.{task_at};
-ghost use Rattle.history_laws.specs.Laws.{SubmitStands, SettledStands, IsOver, SettlingStands, SettlingLaw, LaunchStands, LaunchLaw, MayFollow, AttemptFollows, IsOut, AttemptEnds, MaySettle, AttemptsSettle, AttemptLaw, ManagerLaw};
-ghost use Rattle.history_laws.specs.Reads.{is_submitted, settled, launches, Waiting, Running, stage, last_try, costs};
+ghost use Rattle.history_laws.specs.Laws.{AllSettled, SubmitStands, SettledStands, IsOver, IsFree, OwnStands, SettlingStands, SettlingLaw, LaunchStands, JoinRunStands, LaunchLaw, MayFollow, AttemptFollows, IsOut, AttemptEnds, MaySettle, AttemptsSettle, AttemptLaw, ManagerLaw};
+ghost use Rattle.history_laws.specs.Reads.{is_submitted, settled, has_joined, launches, Waiting, Running, stage, last_try, costs};
+ghost use Rattle.call_rules.specs.Calls.{child};
+ghost use Rattle.history_verdict.specs.Calls.{IsCall, IsNextChild};
 ghost use Rattle.history_verdict.specs.Rows.{AllOver};
 
 use crate::reads::{
-    Progress, costs, has_end, is_submitted, last_attempt, last_try, launches, settled, submits,
+    Progress, Submitting, costs, due, has_end, has_joined, is_submitted, last_attempt, last_try,
+    launches, settled, submits,
 };
-use crate::rows::{all_settled, all_valued, calls_in, has_waited, task_at};
+use crate::rows::{all_settled, all_valued, calls_at, calls_in, has_waited, task_at};
 use event_log::Entry;
 use flow_base::{Path, Text};
 use history_laws::{Expected, Retries, Table};
 use task_record::Status;
+
+// Whether this is the number of the call behind so many others.
+fn is_number(number: u32, calls: usize) -> bool
+    ensures { IsTrue result ↔ (number ≡ suc calls) }
+{
+    number > 0 && (number - 1) as usize == calls
+}
 
 // Whether this is the path of main's next call.
 fn is_next(path: &Path, calls: usize) -> bool
     ensures { IsTrue result ↔ (path.now ≡ suc calls ∷ []) }
 {
     match path.as_slice() {
-        [number] => *number > 0 && (*number - 1) as usize == calls,
+        [number] => is_number(*number, calls),
         _ => false,
     }
 }
@@ -53,6 +63,13 @@ fn is_open(path: &Path, before: &[Entry]) -> bool
     is_submitted(path, before) && settled(path, before).is_none()
 }
 
+// Whether the task is no join, or its body ran and all that it returned has settled.
+fn is_joined(task: &Expected, path: &Path, before: &[Entry]) -> bool
+    ensures { IsTrue result ↔ (task.now.joins ≡ true → (has_joined path.now (reverse before.now) ≡ true) × AllSettled task.now.awaits (reverse before.now)) }
+{
+    !task.joins || (has_joined(path, before) && all_settled(task.awaits.as_slice(), before))
+}
+
 fn settled_stands(table: &Table, before: &[Entry], path: &Path, status: Status) -> bool
     ensures { IsTrue result ↔ SettledStands table.now (reverse before.now) path.now status }
 {
@@ -61,6 +78,7 @@ fn settled_stands(table: &Table, before: &[Entry], path: &Path, status: Status) 
             is_open(path, before)
                 && status == task.status
                 && all_settled(task.inputs.as_slice(), before)
+                && is_joined(task, path, before)
         }
         None => false,
     }
@@ -85,8 +103,19 @@ fn is_over(table: &Table, before: &[Entry]) -> bool
     all_over(table.tasks.as_slice(), before)
 }
 
-fn settling_stands(table: &Table, before: &[Entry], entry: &Entry) -> bool
-    ensures { IsTrue result ↔ SettlingStands table.now (reverse before.now) entry.now }
+// Whether no call of a join is still to be submitted.
+#[tactic(auto, using(crate::proofs::Children::free_rules))]
+fn is_free(table: &Table, before: &[Entry]) -> bool
+    ensures { IsTrue result ↔ IsFree table.now (reverse before.now) }
+{
+    match due(before) {
+        Some(join) => calls_at(table, join.caller) <= join.calls,
+        None => true,
+    }
+}
+
+fn own_stands(table: &Table, before: &[Entry], entry: &Entry) -> bool
+    ensures { IsTrue result ↔ OwnStands table.now (reverse before.now) entry.now }
 {
     match entry {
         Entry::Submit { path, app } => submit_stands(table, before, path, app),
@@ -94,6 +123,47 @@ fn settling_stands(table: &Table, before: &[Entry], entry: &Entry) -> bool
         Entry::End => is_over(table, before),
         _ => true,
     }
+}
+
+// Whether this is the path of the call behind so many others of the join.
+#[tactic(auto, using(crate::proofs::Children::child_rules))]
+fn is_child(path: &Path, join: &Submitting) -> bool
+    ensures { IsTrue result ↔ (path.now ≡ child join.now.caller.now join.now.calls) }
+{
+    match path.as_slice().split_last() {
+        Some((number, caller)) => {
+            is_number(*number, join.calls) && caller == join.caller.as_slice()
+        }
+        None => false,
+    }
+}
+
+// Whether the entry is the submission of this call of the join.
+fn is_call(table: &Table, join: &Submitting, entry: &Entry) -> bool
+    ensures { IsTrue result ↔ IsCall table.now join.now.caller.now join.now.calls entry.now }
+{
+    match entry {
+        Entry::Submit { path, app } => is_child(path, join) && is_of_app(table, path, app),
+        _ => false,
+    }
+}
+
+// Whether the entry is the next call of a join whose body ran.
+fn child_stands(table: &Table, before: &[Entry], entry: &Entry) -> bool
+    ensures { IsTrue result ↔ IsNextChild table.now (reverse before.now) entry.now }
+{
+    match due(before) {
+        Some(join) => { join.calls < calls_at(table, join.caller) && is_call(table, &join, entry) }
+        None => false,
+    }
+}
+
+#[tactic(auto, using(crate::proofs::Children::settling_rules))]
+fn settling_stands(table: &Table, before: &[Entry], entry: &Entry) -> bool
+    ensures { IsTrue result ↔ SettlingStands table.now (reverse before.now) entry.now }
+{
+    child_stands(table, before, entry)
+        || (is_free(table, before) && own_stands(table, before, entry))
 }
 
 /// Whether the entry stands by the law of settling.
@@ -114,12 +184,27 @@ fn launch_stands(table: &Table, before: &[Entry], path: &Path) -> bool
     }
 }
 
+fn join_run_stands(table: &Table, before: &[Entry], path: &Path) -> bool
+    ensures { IsTrue result ↔ JoinRunStands table.now (reverse before.now) path.now }
+{
+    match task_at(table, path) {
+        Some(task) => {
+            is_open(path, before)
+                && !has_joined(path, before)
+                && all_valued(task.inputs.as_slice(), before)
+                && task.joins
+        }
+        None => false,
+    }
+}
+
 /// Whether the entry stands by the law of launches.
 pub fn launch_law(table: &Table, before: &[Entry], entry: &Entry) -> bool
     ensures { IsTrue result ↔ LaunchLaw table.now (reverse before.now) entry.now }
 {
     match entry {
         Entry::Launch { path, .. } => launch_stands(table, before, path),
+        Entry::JoinRun { path } => join_run_stands(table, before, path),
         _ => true,
     }
 }

@@ -1,8 +1,9 @@
 //! What is read from the entries before one, of which the oldest stands first.
 
-ghost use Rattle.std.specs.Prelude.{◌≡◌, ℕ, ◌+◌, ◌-◌, ◌^◌, ◌≤◌, ◌∷◌, min, length, reverse, bytes_eq, if◌then◌else◌, true};
+ghost use Rattle.std.specs.Prelude.{◌≡◌, ℕ, ◌+◌, ◌-◌, ◌^◌, ◌<◌, ◌≤◌, ◌∷◌, min, length, reverse, bytes_eq, if◌then◌else◌, true};
 ghost use Rattle.history_verdict.specs.Progress.{progress_of};
-ghost use Rattle.history_laws.specs.Reads.{History, value_word, is_submitted, is_of_main, submits, settled, launches, Over, stage, last_try, cost_in, cost, costs, has_end};
+ghost use Rattle.history_verdict.specs.Calls.{due_of, calls_of};
+ghost use Rattle.history_laws.specs.Reads.{History, value_word, is_submitted, is_of_main, submits, settled, has_joined, due, launches, Over, stage, last_try, cost_in, cost, costs, has_end};
 
 use event_log::Entry;
 use flow_base::{Path, Text};
@@ -88,6 +89,66 @@ pub fn settled(path: &Path, before: &[Entry]) -> Option<Status>
         state = settled_with(entry, path, state);
     }
     state
+}
+
+fn is_join_run(entry: &Entry, path: &Path) -> bool
+    ensures { (b : History) → has_joined path.now (entry.now ∷ b) ≡ (if result then true else has_joined path.now b) }
+{
+    match entry {
+        Entry::JoinRun { path: other } => same_path(path, other),
+        _ => false,
+    }
+}
+
+/// Whether the body of the join ran.
+pub fn has_joined(path: &Path, before: &[Entry]) -> bool
+    ensures { result ≡ has_joined path.now (reverse before.now) }
+{
+    let mut joined = false;
+    for entry in before {
+        joined = is_join_run(entry, path) || joined;
+    }
+    joined
+}
+
+/// A join whose body ran, and how many of its calls are submitted since.
+#[derive(Clone, Copy)]
+pub struct Submitting<'a> {
+    pub caller: &'a Path,
+    pub calls: usize,
+}
+
+// The same with one more entry.
+fn due_with<'a>(entry: &'a Entry, earlier: Option<Submitting<'a>>) -> Option<Submitting<'a>>
+    requires few { calls_of earlier < 2 ^ 64 - 1 }
+    ensures is { (b : History) → due_of earlier.entry ≡ due b → due_of result ≡ due (entry.now ∷ b) }
+    ensures most { calls_of result ≤ calls_of earlier.entry + 1 }
+{
+    match entry {
+        Entry::JoinRun { path } => Some(Submitting {
+            caller: path,
+            calls: 0,
+        }),
+        Entry::Submit { .. } => match earlier {
+            Some(join) => Some(Submitting {
+                caller: join.caller,
+                calls: join.calls + 1,
+            }),
+            None => None,
+        },
+        _ => None,
+    }
+}
+
+/// The join whose calls are being submitted, where nothing else stands behind its run.
+pub fn due(before: &[Entry]) -> Option<Submitting<'_>>
+    ensures { due_of result ≡ due (reverse before.now) }
+{
+    let mut join = None;
+    for entry in before {
+        join = due_with(entry, join);
+    }
+    join
 }
 
 fn is_launch(entry: &Entry, path: &Path) -> bool

@@ -1,7 +1,7 @@
 //! What is looked up in a table, and which of its tasks have settled.
 
 ghost use Rattle.std.specs.Prelude.{◌≡◌, ◌↔◌, ◌≤◌, IsTrue, length, reverse, option_copied};
-ghost use Rattle.history_laws.specs.Laws.{AllSettled, IsValued, AllValued};
+ghost use Rattle.history_laws.specs.Laws.{AllSettled, IsValued, AllValued, calls_at};
 ghost use Rattle.history_laws.specs.Tables.{task_in, task_at, calls_in, waits_before};
 
 use crate::reads::{same_path, settled};
@@ -26,6 +26,16 @@ pub fn task_at<'a>(table: &'a Table, path: &Path) -> Option<&'a Expected>
     ensures { option_copied result ≡ task_at table.now path.now }
 {
     task_in(table.tasks.as_slice(), path)
+}
+
+/// How many calls the body of the task of this path makes.
+pub fn calls_at(table: &Table, path: &Path) -> usize
+    ensures { result ≡ calls_at table.now path.now }
+{
+    match task_at(table, path) {
+        Some(task) => task.calls as usize,
+        None => 0,
+    }
 }
 
 /// How many calls main makes.

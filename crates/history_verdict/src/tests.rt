@@ -13,32 +13,40 @@ use task_record::Status;
 #[derive(Clone, Copy)]
 enum EntryKind {
     Add,
+    Both,
     Value,
     ZeroDivisionError,
 }
 
-// An entry, with numbers for the task, the attempt and the manager.
+// The numbers of a task's path.
+type Task = &'static [u32];
+
+// An entry: the task, and numbers for the attempt and the manager.
 #[derive(Clone, Copy)]
 enum Line {
-    Submit(u32, EntryKind),
-    Launch(u32, u32),
-    Start(u32, u32, u32),
-    Ended(u32, u32, u32, EntryKind),
-    Settled(u32, Status),
+    Submit(Task, EntryKind),
+    JoinRun(Task),
+    Launch(Task, u32),
+    Start(Task, u32, u32),
+    Ended(Task, u32, u32, EntryKind),
+    Settled(Task, Status),
     End,
 }
 
 fn text(alloc: Global, word: EntryKind) -> Result<Text, AllocError> {
     match word {
         EntryKind::Add => Text::of(alloc, "add"),
+        EntryKind::Both => Text::of(alloc, "both"),
         EntryKind::Value => Text::of(alloc, "value"),
         EntryKind::ZeroDivisionError => Text::of(alloc, "ZeroDivisionError"),
     }
 }
 
-fn path(alloc: Global, task: u32) -> Result<Path, AllocError> {
+fn path(alloc: Global, task: &[u32]) -> Result<Path, AllocError> {
     let mut path = Path::new(alloc);
-    path.push(task)?;
+    for number in task {
+        path.push(*number)?;
+    }
     Ok(path)
 }
 
@@ -47,6 +55,9 @@ fn entry(alloc: Global, line: Line) -> Result<Entry, AllocError> {
         Line::Submit(task, app) => Ok(Entry::Submit {
             path: path(alloc, task)?,
             app: text(alloc, app)?,
+        }),
+        Line::JoinRun(task) => Ok(Entry::JoinRun {
+            path: path(alloc, task)?,
         }),
         Line::Launch(task, attempt) => Ok(Entry::Launch {
             path: path(alloc, task)?,
@@ -78,18 +89,27 @@ fn add_all(alloc: Global, entries: &mut Entries, lines: &[Line]) -> Result<(), A
     Ok(())
 }
 
-// A task of the app `add`, by its row: its path, its input where it has one, whether it runs, how its
-// body ends, and its state.
+// How a task gets its outcome.
+#[derive(Clone, Copy)]
+enum Body {
+    // by its inputs, without its body
+    Skipped,
+    // by attempts of the app `add`, which end so
+    Runs(EntryKind),
+    // by so many calls of the body of the app `both`, which returns the futures of these tasks
+    Joins(u32, &'static [Task]),
+}
+
+// A task by its row: its path, its input where it has one, its body, and its state.
 #[derive(Clone, Copy)]
 struct Row {
-    task: u32,
-    input: Option<u32>,
-    runs: bool,
-    kind: EntryKind,
+    task: Task,
+    input: Option<Task>,
+    body: Body,
     status: Status,
 }
 
-fn inputs(alloc: Global, input: Option<u32>) -> Result<Paths, AllocError> {
+fn inputs(alloc: Global, input: Option<Task>) -> Result<Paths, AllocError> {
     let mut inputs = Paths::new(alloc);
     if let Some(task) = input {
         inputs.push(path(alloc, task)?)?;
@@ -97,13 +117,47 @@ fn inputs(alloc: Global, input: Option<u32>) -> Result<Paths, AllocError> {
     Ok(inputs)
 }
 
+fn app(alloc: Global, body: Body) -> Result<Text, AllocError> {
+    match body {
+        Body::Joins(_, _) => text(alloc, EntryKind::Both),
+        _ => text(alloc, EntryKind::Add),
+    }
+}
+
+fn kind(alloc: Global, body: Body) -> Result<Text, AllocError> {
+    match body {
+        Body::Runs(kind) => text(alloc, kind),
+        _ => Text::of(alloc, ""),
+    }
+}
+
+fn calls(body: Body) -> u32 {
+    match body {
+        Body::Joins(calls, _) => calls,
+        _ => 0,
+    }
+}
+
+fn awaits(alloc: Global, body: Body) -> Result<Paths, AllocError> {
+    let mut awaits = Paths::new(alloc);
+    if let Body::Joins(_, tasks) = body {
+        for task in tasks {
+            awaits.push(path(alloc, task)?)?;
+        }
+    }
+    Ok(awaits)
+}
+
 fn expected(alloc: Global, row: Row) -> Result<Expected, AllocError> {
     Ok(Expected {
         path: path(alloc, row.task)?,
-        app: text(alloc, EntryKind::Add)?,
+        app: app(alloc, row.body)?,
         inputs: inputs(alloc, row.input)?,
-        runs: row.runs,
-        kind: text(alloc, row.kind)?,
+        runs: matches!(row.body, Body::Runs(_)),
+        joins: matches!(row.body, Body::Joins(_, _)),
+        calls: calls(row.body),
+        awaits: awaits(alloc, row.body)?,
+        kind: kind(alloc, row.body)?,
         status: row.status,
     })
 }
@@ -113,7 +167,7 @@ fn acts(alloc: Global, main: &[Option<u32>]) -> Result<ListOf<MainEvent>, AllocE
     let mut acts = ListOf::new(alloc);
     for waited in main {
         acts.push(match waited {
-            Some(task) => MainEvent::Wait(path(alloc, *task)?),
+            Some(task) => MainEvent::Wait(path(alloc, &[*task])?),
             None => MainEvent::Call,
         })?;
     }
@@ -146,17 +200,15 @@ fn retries(alloc: Global, cost: Option<u32>, limit: u32) -> Result<Retries, Allo
 // app add(a, b) { return a + b; } main { let x = call add(1, 2); let y = call add(x, 10); print result(y); }
 const ROWS: [Row; 2] = [
     Row {
-        task: 1,
+        task: &[1],
         input: None,
-        runs: true,
-        kind: EntryKind::Value,
+        body: Body::Runs(EntryKind::Value),
         status: Status::ExecDone,
     },
     Row {
-        task: 2,
-        input: Some(1),
-        runs: true,
-        kind: EntryKind::Value,
+        task: &[2],
+        input: Some(&[1]),
+        body: Body::Runs(EntryKind::Value),
         status: Status::ExecDone,
     },
 ];
@@ -164,50 +216,59 @@ const ROWS: [Row; 2] = [
 const MAIN: [Option<u32>; 3] = [None, None, Some(2)];
 
 const LEGAL: [Line; 11] = [
-    Line::Submit(1, EntryKind::Add),
-    Line::Submit(2, EntryKind::Add),
-    Line::Launch(1, 1),
-    Line::Start(1, 1, 1),
-    Line::Ended(1, 1, 1, EntryKind::Value),
-    Line::Settled(1, Status::ExecDone),
-    Line::Launch(2, 1),
-    Line::Start(2, 1, 1),
-    Line::Ended(2, 1, 1, EntryKind::Value),
-    Line::Settled(2, Status::ExecDone),
+    Line::Submit(&[1], EntryKind::Add),
+    Line::Submit(&[2], EntryKind::Add),
+    Line::Launch(&[1], 1),
+    Line::Start(&[1], 1, 1),
+    Line::Ended(&[1], 1, 1, EntryKind::Value),
+    Line::Settled(&[1], Status::ExecDone),
+    Line::Launch(&[2], 1),
+    Line::Start(&[2], 1, 1),
+    Line::Ended(&[2], 1, 1, EntryKind::Value),
+    Line::Settled(&[2], Status::ExecDone),
     Line::End,
 ];
 
-// The legal log with a change: so many of its first entries, then these lines, and then what comes behind
+// A legal log with a change: so many of its first entries, then these lines, and then what comes behind
 // so many of its first entries.
 fn changed(
     alloc: Global,
+    legal: &[Line],
     first: usize,
     lines: &[Line],
     skipped: usize,
 ) -> Result<Entries, AllocError> {
     let mut entries = Entries::new(alloc);
-    for line in LEGAL.iter().take(first) {
+    for line in legal.iter().take(first) {
         entries.push(entry(alloc, *line)?)?;
     }
     add_all(alloc, &mut entries, lines)?;
-    for line in LEGAL.iter().skip(skipped) {
+    for line in legal.iter().skip(skipped) {
         entries.push(entry(alloc, *line)?)?;
     }
     Ok(entries)
 }
 
-// Changes of the legal log, each with the law that it breaks, and the entry that breaks it.
-const BROKEN: [(usize, &[Line], usize, Law, usize); 32] = [
+// A change of a legal log, with the law that it breaks, and the entry that breaks it.
+type Change = (usize, &'static [Line], usize, Law, usize);
+
+const BROKEN: [Change; 32] = [
     // a second settling
     (
         6,
-        &[Line::Settled(1, Status::ExecDone)],
+        &[Line::Settled(&[1], Status::ExecDone)],
         6,
         Law::Settling,
         7,
     ),
     // another state
-    (5, &[Line::Settled(1, Status::Failed)], 6, Law::Settling, 6),
+    (
+        5,
+        &[Line::Settled(&[1], Status::Failed)],
+        6,
+        Law::Settling,
+        6,
+    ),
     // an input that hasn't settled
     (5, &[], 6, Law::Settling, 9),
     // a settling of what isn't submitted
@@ -216,47 +277,68 @@ const BROKEN: [(usize, &[Line], usize, Law, usize); 32] = [
     (
         0,
         &[
-            Line::Submit(2, EntryKind::Add),
-            Line::Submit(1, EntryKind::Add),
+            Line::Submit(&[2], EntryKind::Add),
+            Line::Submit(&[1], EntryKind::Add),
         ],
         2,
         Law::Settling,
         1,
     ),
     // a second submission
-    (1, &[Line::Submit(1, EntryKind::Add)], 1, Law::Settling, 2),
+    (
+        1,
+        &[Line::Submit(&[1], EntryKind::Add)],
+        1,
+        Law::Settling,
+        2,
+    ),
     // another app
-    (0, &[Line::Submit(1, EntryKind::Value)], 1, Law::Settling, 1),
+    (
+        0,
+        &[Line::Submit(&[1], EntryKind::Value)],
+        1,
+        Law::Settling,
+        1,
+    ),
     // a third call
-    (2, &[Line::Submit(3, EntryKind::Add)], 2, Law::Settling, 3),
+    (
+        2,
+        &[Line::Submit(&[3], EntryKind::Add)],
+        2,
+        Law::Settling,
+        3,
+    ),
     // the end with a task unsettled
     (9, &[], 10, Law::Settling, 10),
     // an entry behind the end
-    (11, &[Line::Launch(1, 1)], 11, Law::Settling, 12),
+    (11, &[Line::Launch(&[1], 1)], 11, Law::Settling, 12),
     // before the submission
-    (0, &[Line::Launch(1, 1)], 0, Law::Launch, 1),
+    (0, &[Line::Launch(&[1], 1)], 0, Law::Launch, 1),
     // no task
-    (2, &[Line::Launch(3, 1)], 2, Law::Launch, 3),
+    (2, &[Line::Launch(&[3], 1)], 2, Law::Launch, 3),
     // before the input has settled
     (
         5,
-        &[Line::Launch(2, 1), Line::Settled(1, Status::ExecDone)],
+        &[Line::Launch(&[2], 1), Line::Settled(&[1], Status::ExecDone)],
         7,
         Law::Launch,
         6,
     ),
     // after the settling
-    (6, &[Line::Launch(1, 2)], 6, Law::Launch, 7),
+    (6, &[Line::Launch(&[1], 2)], 6, Law::Launch, 7),
     // the second attempt first
-    (2, &[Line::Launch(1, 2)], 3, Law::Attempt, 3),
+    (2, &[Line::Launch(&[1], 2)], 3, Law::Attempt, 3),
     // a second attempt while the first one waits
-    (3, &[Line::Launch(1, 2)], 3, Law::Attempt, 4),
+    (3, &[Line::Launch(&[1], 2)], 3, Law::Attempt, 4),
     // the end of an attempt that wasn't launched
     (2, &[], 3, Law::Attempt, 4),
     // a second end behind a second start
     (
         5,
-        &[Line::Start(1, 1, 1), Line::Ended(1, 1, 1, EntryKind::Value)],
+        &[
+            Line::Start(&[1], 1, 1),
+            Line::Ended(&[1], 1, 1, EntryKind::Value),
+        ],
         5,
         Law::Attempt,
         7,
@@ -264,7 +346,7 @@ const BROKEN: [(usize, &[Line], usize, Law, usize); 32] = [
     // another end of the body
     (
         4,
-        &[Line::Ended(1, 1, 1, EntryKind::ZeroDivisionError)],
+        &[Line::Ended(&[1], 1, 1, EntryKind::ZeroDivisionError)],
         5,
         Law::Attempt,
         5,
@@ -272,7 +354,7 @@ const BROKEN: [(usize, &[Line], usize, Law, usize); 32] = [
     // the end of another attempt
     (
         4,
-        &[Line::Ended(1, 2, 1, EntryKind::Value)],
+        &[Line::Ended(&[1], 2, 1, EntryKind::Value)],
         5,
         Law::Attempt,
         5,
@@ -280,7 +362,7 @@ const BROKEN: [(usize, &[Line], usize, Law, usize); 32] = [
     // a second end
     (
         5,
-        &[Line::Ended(1, 1, 1, EntryKind::Value)],
+        &[Line::Ended(&[1], 1, 1, EntryKind::Value)],
         5,
         Law::Attempt,
         6,
@@ -288,27 +370,27 @@ const BROKEN: [(usize, &[Line], usize, Law, usize); 32] = [
     // a settling while the attempt runs
     (4, &[], 5, Law::Attempt, 5),
     // a start at another manager
-    (3, &[Line::Start(1, 1, 2)], 4, Law::Manager, 4),
+    (3, &[Line::Start(&[1], 1, 2)], 4, Law::Manager, 4),
     // a start of another attempt
-    (3, &[Line::Start(1, 2, 1)], 4, Law::Manager, 4),
+    (3, &[Line::Start(&[1], 2, 1)], 4, Law::Manager, 4),
     // a second start
-    (4, &[Line::Start(1, 1, 1)], 4, Law::Manager, 5),
+    (4, &[Line::Start(&[1], 1, 1)], 4, Law::Manager, 5),
     // a start before the launch
     (
         2,
-        &[Line::Start(1, 1, 1), Line::Launch(1, 1)],
+        &[Line::Start(&[1], 1, 1), Line::Launch(&[1], 1)],
         4,
         Law::Manager,
         3,
     ),
     // a start of what has ended
-    (5, &[Line::Start(1, 1, 1)], 5, Law::Manager, 6),
+    (5, &[Line::Start(&[1], 1, 1)], 5, Law::Manager, 6),
     // the end of what wasn't started
     (3, &[], 4, Law::Manager, 4),
     // an end at another manager
     (
         4,
-        &[Line::Ended(1, 1, 2, EntryKind::Value)],
+        &[Line::Ended(&[1], 1, 2, EntryKind::Value)],
         5,
         Law::Manager,
         5,
@@ -338,7 +420,7 @@ fn each_change_breaks_its_law(rt: HostRuntime) -> Result<(), Fail> {
     let table = table(alloc, &ROWS, &MAIN)?;
     let retries = retries(alloc, None, 0)?;
     for (first, lines, skipped, law, entry) in BROKEN {
-        let entries = changed(alloc, first, lines, skipped)?;
+        let entries = changed(alloc, &LEGAL, first, lines, skipped)?;
         let found = verdict(&table, &retries, &entries);
         assert_eq!(rt; found, Some(Breach { law, entry }));
     }
@@ -349,11 +431,11 @@ fn each_change_breaks_its_law(rt: HostRuntime) -> Result<(), Fail> {
 const WAITING_MAIN: [Option<u32>; 4] = [None, Some(1), None, Some(2)];
 
 const LATER_SUBMIT: [Line; 5] = [
-    Line::Launch(1, 1),
-    Line::Start(1, 1, 1),
-    Line::Ended(1, 1, 1, EntryKind::Value),
-    Line::Settled(1, Status::ExecDone),
-    Line::Submit(2, EntryKind::Add),
+    Line::Launch(&[1], 1),
+    Line::Start(&[1], 1, 1),
+    Line::Ended(&[1], 1, 1, EntryKind::Value),
+    Line::Settled(&[1], Status::ExecDone),
+    Line::Submit(&[2], EntryKind::Add),
 ];
 
 #[test]
@@ -362,12 +444,12 @@ fn a_call_behind_a_wait_is_submitted_later(rt: HostRuntime) -> Result<(), Fail> 
     let table = table(alloc, &ROWS, &WAITING_MAIN)?;
     let retries = retries(alloc, None, 0)?;
     let law = Law::Settling;
-    let early = changed(alloc, 11, &[], 11)?;
+    let early = changed(alloc, &LEGAL, 11, &[], 11)?;
     assert_eq!(rt;
         verdict(&table, &retries, &early),
         Some(Breach { law, entry: 2 })
     );
-    let later = changed(alloc, 1, &LATER_SUBMIT, 6)?;
+    let later = changed(alloc, &LEGAL, 1, &LATER_SUBMIT, 6)?;
     assert_eq!(rt; verdict(&table, &retries, &later), None);
     Ok(())
 }
@@ -375,32 +457,30 @@ fn a_call_behind_a_wait_is_submitted_later(rt: HostRuntime) -> Result<(), Fail> 
 // The first task divides by 0 at each attempt, and the second one needs its value.
 const FAILING_ROWS: [Row; 2] = [
     Row {
-        task: 1,
+        task: &[1],
         input: None,
-        runs: true,
-        kind: EntryKind::ZeroDivisionError,
+        body: Body::Runs(EntryKind::ZeroDivisionError),
         status: Status::Failed,
     },
     Row {
-        task: 2,
-        input: Some(1),
-        runs: false,
-        kind: EntryKind::Value,
+        task: &[2],
+        input: Some(&[1]),
+        body: Body::Skipped,
         status: Status::DepFail,
     },
 ];
 
 const FAILING: [Line; 11] = [
-    Line::Submit(1, EntryKind::Add),
-    Line::Submit(2, EntryKind::Add),
-    Line::Launch(1, 1),
-    Line::Start(1, 1, 1),
-    Line::Ended(1, 1, 1, EntryKind::ZeroDivisionError),
-    Line::Launch(1, 2),
-    Line::Start(1, 2, 1),
-    Line::Ended(1, 2, 1, EntryKind::ZeroDivisionError),
-    Line::Settled(1, Status::Failed),
-    Line::Settled(2, Status::DepFail),
+    Line::Submit(&[1], EntryKind::Add),
+    Line::Submit(&[2], EntryKind::Add),
+    Line::Launch(&[1], 1),
+    Line::Start(&[1], 1, 1),
+    Line::Ended(&[1], 1, 1, EntryKind::ZeroDivisionError),
+    Line::Launch(&[1], 2),
+    Line::Start(&[1], 2, 1),
+    Line::Ended(&[1], 2, 1, EntryKind::ZeroDivisionError),
+    Line::Settled(&[1], Status::Failed),
+    Line::Settled(&[2], Status::DepFail),
     Line::End,
 ];
 
@@ -433,6 +513,258 @@ fn a_task_is_tried_again_while_its_costs_are_within_the_limit(rt: HostRuntime) -
         let retries = retries(alloc, cost, limit)?;
         let found = verdict(&table, &retries, &entries);
         assert_eq!(rt; found, breach_of_attempts(entry));
+    }
+    Ok(())
+}
+
+// app add(a, b) { return a + b; } join app both(a) { return [call add(a, 1), call add(a, 2)]; }
+// main { let x = call add(1, 2); let y = call both(x); print result(y); }
+const JOIN_ROWS: [Row; 4] = [
+    Row {
+        task: &[1],
+        input: None,
+        body: Body::Runs(EntryKind::Value),
+        status: Status::ExecDone,
+    },
+    Row {
+        task: &[2],
+        input: Some(&[1]),
+        body: Body::Joins(2, &[&[2, 1], &[2, 2]]),
+        status: Status::ExecDone,
+    },
+    Row {
+        task: &[2, 1],
+        input: None,
+        body: Body::Runs(EntryKind::Value),
+        status: Status::ExecDone,
+    },
+    Row {
+        task: &[2, 2],
+        input: None,
+        body: Body::Runs(EntryKind::Value),
+        status: Status::ExecDone,
+    },
+];
+
+const JOIN_LEGAL: [Line; 19] = [
+    Line::Submit(&[1], EntryKind::Add),
+    Line::Submit(&[2], EntryKind::Both),
+    Line::Launch(&[1], 1),
+    Line::Start(&[1], 1, 1),
+    Line::Ended(&[1], 1, 1, EntryKind::Value),
+    Line::Settled(&[1], Status::ExecDone),
+    Line::JoinRun(&[2]),
+    Line::Submit(&[2, 1], EntryKind::Add),
+    Line::Submit(&[2, 2], EntryKind::Add),
+    Line::Launch(&[2, 1], 1),
+    Line::Launch(&[2, 2], 1),
+    Line::Start(&[2, 1], 1, 1),
+    Line::Start(&[2, 2], 1, 1),
+    Line::Ended(&[2, 1], 1, 1, EntryKind::Value),
+    Line::Settled(&[2, 1], Status::ExecDone),
+    Line::Ended(&[2, 2], 1, 1, EntryKind::Value),
+    Line::Settled(&[2, 2], Status::ExecDone),
+    Line::Settled(&[2], Status::ExecDone),
+    Line::End,
+];
+
+const JOIN_BROKEN: [Change; 18] = [
+    // another entry behind the run of the body
+    (7, &[Line::Start(&[1], 1, 1)], 7, Law::Settling, 8),
+    // another entry between the calls
+    (
+        8,
+        &[
+            Line::Launch(&[2, 1], 1),
+            Line::Submit(&[2, 2], EntryKind::Add),
+        ],
+        10,
+        Law::Settling,
+        9,
+    ),
+    // the second call first
+    (
+        7,
+        &[
+            Line::Submit(&[2, 2], EntryKind::Add),
+            Line::Submit(&[2, 1], EntryKind::Add),
+        ],
+        9,
+        Law::Settling,
+        8,
+    ),
+    // no second call
+    (8, &[], 9, Law::Settling, 9),
+    // the first call twice
+    (
+        8,
+        &[Line::Submit(&[2, 1], EntryKind::Add)],
+        8,
+        Law::Settling,
+        9,
+    ),
+    // a third call
+    (
+        9,
+        &[Line::Submit(&[2, 3], EntryKind::Add)],
+        9,
+        Law::Settling,
+        10,
+    ),
+    // a call of another app
+    (
+        7,
+        &[Line::Submit(&[2, 1], EntryKind::Both)],
+        8,
+        Law::Settling,
+        8,
+    ),
+    // a call of another join
+    (
+        7,
+        &[Line::Submit(&[1, 1], EntryKind::Add)],
+        8,
+        Law::Settling,
+        8,
+    ),
+    // a call of main in its place
+    (
+        7,
+        &[Line::Submit(&[1], EntryKind::Add)],
+        8,
+        Law::Settling,
+        8,
+    ),
+    // the calls before the run of the body
+    (6, &[], 7, Law::Settling, 7),
+    // a settling before the body ran
+    (
+        6,
+        &[Line::Settled(&[2], Status::ExecDone)],
+        6,
+        Law::Settling,
+        7,
+    ),
+    // a settling before a call that it returned
+    (
+        15,
+        &[Line::Settled(&[2], Status::ExecDone)],
+        15,
+        Law::Settling,
+        16,
+    ),
+    // the calls a second time
+    (
+        9,
+        &[
+            Line::Submit(&[2, 1], EntryKind::Add),
+            Line::Submit(&[2, 2], EntryKind::Add),
+        ],
+        9,
+        Law::Settling,
+        10,
+    ),
+    // a second run of the body
+    (
+        9,
+        &[
+            Line::JoinRun(&[2]),
+            Line::Submit(&[2, 1], EntryKind::Add),
+            Line::Submit(&[2, 2], EntryKind::Add),
+        ],
+        9,
+        Law::Launch,
+        10,
+    ),
+    // a run before the input has settled
+    (
+        5,
+        &[
+            Line::JoinRun(&[2]),
+            Line::Submit(&[2, 1], EntryKind::Add),
+            Line::Submit(&[2, 2], EntryKind::Add),
+            Line::Settled(&[1], Status::ExecDone),
+        ],
+        9,
+        Law::Launch,
+        6,
+    ),
+    // the run of an app that is no join
+    (5, &[Line::JoinRun(&[1])], 5, Law::Launch, 6),
+    // the run of no task
+    (6, &[Line::JoinRun(&[3])], 6, Law::Launch, 7),
+    // an attempt of a join
+    (6, &[Line::Launch(&[2], 1)], 6, Law::Launch, 7),
+];
+
+// app both() { return 1; } main { let x = call both(); print result(x); }
+const SHORT_JOIN_ROWS: [Row; 1] = [Row {
+    task: &[1],
+    input: None,
+    body: Body::Joins(0, &[]),
+    status: Status::ExecDone,
+}];
+
+const SHORT_JOIN_MAIN: [Option<u32>; 2] = [None, Some(1)];
+
+const SHORT_JOIN_LEGAL: [Line; 4] = [
+    Line::Submit(&[1], EntryKind::Both),
+    Line::JoinRun(&[1]),
+    Line::Settled(&[1], Status::ExecDone),
+    Line::End,
+];
+
+const SHORT_JOIN_BROKEN: [Change; 5] = [
+    // no run of the body
+    (1, &[], 2, Law::Settling, 2),
+    // a call that it doesn't make
+    (
+        2,
+        &[Line::Submit(&[1, 1], EntryKind::Add)],
+        2,
+        Law::Settling,
+        3,
+    ),
+    // a second run of the body
+    (2, &[Line::JoinRun(&[1])], 2, Law::Launch, 3),
+    // a run before the submission
+    (
+        0,
+        &[Line::JoinRun(&[1]), Line::Submit(&[1], EntryKind::Both)],
+        2,
+        Law::Launch,
+        1,
+    ),
+    // a second run behind the settling
+    (3, &[Line::JoinRun(&[1])], 3, Law::Launch, 4),
+];
+
+#[test]
+fn the_calls_of_a_join_stand_behind_its_run(rt: HostRuntime) -> Result<(), Fail> {
+    let alloc = rt.alloc();
+    let table = table(alloc, &JOIN_ROWS, &MAIN)?;
+    let retries = retries(alloc, None, 0)?;
+    let unchanged = changed(alloc, &JOIN_LEGAL, 0, &[], 0)?;
+    assert_eq!(rt; verdict(&table, &retries, &unchanged), None);
+    for (first, lines, skipped, law, entry) in JOIN_BROKEN {
+        let entries = changed(alloc, &JOIN_LEGAL, first, lines, skipped)?;
+        let found = verdict(&table, &retries, &entries);
+        assert_eq!(rt; found, Some(Breach { law, entry }));
+    }
+    Ok(())
+}
+
+#[test]
+fn a_join_without_calls_runs_too(rt: HostRuntime) -> Result<(), Fail> {
+    let alloc = rt.alloc();
+    let table = table(alloc, &SHORT_JOIN_ROWS, &SHORT_JOIN_MAIN)?;
+    let retries = retries(alloc, None, 0)?;
+    let unchanged = changed(alloc, &SHORT_JOIN_LEGAL, 0, &[], 0)?;
+    assert_eq!(rt; verdict(&table, &retries, &unchanged), None);
+    for (first, lines, skipped, law, entry) in SHORT_JOIN_BROKEN {
+        let entries = changed(alloc, &SHORT_JOIN_LEGAL, first, lines, skipped)?;
+        let found = verdict(&table, &retries, &entries);
+        assert_eq!(rt; found, Some(Breach { law, entry }));
     }
     Ok(())
 }

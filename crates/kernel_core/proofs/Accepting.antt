@@ -1,65 +1,54 @@
 -- A turn that is taken refuses nothing.
-use Rattle.std.proofs.Common.{◌≡◌, refl, ap, ◌∙◌, ℕ, true, false, List, [], ◌∷◌, Option, Some, None, Bool}
+use Rattle.std.proofs.Common.{◌≡◌, Bool, true, false, List, [], ◌∷◌, Option, Some, None, is_some, refl, ◌∙◌, ap}
 use Rattle.std.proofs.lemmas.Bool.{or_parts}
+use Rattle.flow_base.specs.declared.value.Value.{out-Value}
+use Rattle.flow_base.specs.declared.outcome.Ending.{Ending}
 use Rattle.flow_base.specs.declared.outcome.Outcome.{Outcome}
-use Rattle.flow_base.specs.declared.outcome.Outcome.TheVariants as o
-use Rattle.flow_base.specs.declared.outcome.Exception.{Exception}
-use Rattle.small_tree.specs.declared.small.SmallStatement.{SmallStatement}
-use Rattle.small_tree.specs.declared.small.SmallStatement.TheVariants as small
-use Rattle.dependency_graph.specs.declared.readiness.Readiness.{Readiness}
-use Rattle.dependency_graph.specs.declared.readiness.Readiness.TheVariants as readiness
-use Rattle.dependency_graph.specs.Readiness.{ready}
-use Rattle.small_meaning.specs.Plan.{place_of}
+use Rattle.flow_meaning.specs.declared.walk.Request.{Request}
+use Rattle.flow_meaning.specs.declared.walk.Request.TheVariants as request
+use Rattle.flow_meaning.specs.Act.{Act, Give, Throw, Ask}
+use Rattle.flow_meaning.specs.Inputs.{Path, path_in}
+use Rattle.flow_meaning.specs.Meaning.{Done}
+use Rattle.flow_meaning.specs.Sequential.{outcome_at}
 use Rattle.history_laws.specs.Reads.{has_end}
-use Rattle.kernel_model.specs.declared.answers.Delivered.{Delivered}
-use Rattle.kernel_model.specs.declared.answers.Delivered.TheVariants.{Taken, Stale}
-use Rattle.kernel_model.specs.Known.{Known, known, call_at, settled_outcome, has_ended}
-use Rattle.kernel_model.specs.Jobs.{JobView, DoneView}
-use Rattle.kernel_model.specs.Turns.{with_outcome, statement_step, unless_raised, carried_out, script_step, CallbackTurn, FetchTurn, DeliverTurn, SettleTurn, EndTurn}
+use Rattle.kernel_model.specs.declared.answers.Refusal.{Refusal}
+use Rattle.kernel_model.specs.Known.{Known, known, has_ended, main_left}
+use Rattle.kernel_model.specs.Turns.{unsettled_step, outcome_step, wait_step, request_step, act_step, unless_ended, script_step}
 
-pub going_accepts : (w : Known) → has_ended w ≡ false → w.refused ≡ false
-going_accepts w going = (or_parts w.refused (has_end w.past) going).0
+none : (r : Option Refusal) → is_some r ≡ false → r ≡ None
+none None h = refl
+none (Some refusal) h = absurd (cc)
 
-with_outcome-accepts : (w : Known) (k : ℕ) (rest : List SmallStatement) (r : Option Outcome) → (with_outcome w k rest r).1.refused ≡ w.refused
-with_outcome-accepts w k rest None = refl
-with_outcome-accepts w k rest (Some (o.Value value files)) = refl
-with_outcome-accepts w k rest (Some (o.Failed exception)) = refl
+pub going_accepts : (w : Known) → has_ended w ≡ false → w.refusal ≡ None
+going_accepts w going = none w.refusal (or_parts (is_some w.refusal) (has_end w.past) going).0
 
-step-accepts : (w : Known) (rest : List SmallStatement) → (statement_step w rest).1.refused ≡ w.refused
-step-accepts w [] = refl
-step-accepts w (small.Call variable app arguments ∷ rest) = refl
-step-accepts w (small.Print variable ∷ rest) = with_outcome-accepts w (place_of w.variables variable) rest (settled_outcome w (place_of w.variables variable))
+unsettled-accepts : (w : Known) (p : Path) (arrived : Bool) → (unsettled_step w p arrived).1.refusal ≡ w.refusal
+unsettled-accepts w p true = refl
+unsettled-accepts w p false = refl
 
-script-accepts : (w : Known) (raised : Option Exception) → (unless_raised raised w (statement_step w w.rest)).1.refused ≡ w.refused
-script-accepts w None = step-accepts w w.rest
-script-accepts w (Some exception) = refl
+outcome-accepts : (w : Known) (p : Path) (outcome : Option Outcome) → (outcome_step w p outcome).1.refusal ≡ w.refusal
+outcome-accepts w p None = unsettled-accepts w p w.arrived
+outcome-accepts w p (Some outcome) = refl
 
-carried-accepts : (w : Known) (k : ℕ) (r : Readiness) → (carried_out w k r).refused ≡ w.refused
-carried-accepts w k (readiness.Settles exception) = refl
-carried-accepts w k (readiness.Runs values) = refl
+wait-accepts : (w : Known) (ps : List Path) → (wait_step w ps).1.refusal ≡ w.refusal
+wait-accepts w [] = refl
+wait-accepts w (p ∷ ps) = outcome-accepts w p (outcome_at (known w) p)
 
-same : (w u v : Known) → v ≡ u → u.refused ≡ w.refused → v.refused ≡ w.refused
-same w u v is kept = ap (λ (x : Known). x.refused) is ∙ kept
+request-accepts : (w : Known) (wanted : Request) → (request_step w wanted).1.refusal ≡ w.refusal
+request-accepts w (request.Call app arguments names) = refl
+request-accepts w (request.WaitValue f) = wait-accepts w (path_in (out-Value f))
+request-accepts w (request.WaitName f) = wait-accepts w (path_in (out-Value f))
+request-accepts w (request.Print value) = refl
+request-accepts w request.Checkpoint = refl
 
-pub accepts_script : (w v : Known) → v ≡ (script_step w).1 → v.refused ≡ w.refused
-accepts_script w v is = same w _ v is (script-accepts w w.raised)
+act-accepts : (w : Known) (act : Act Done) → (act_step w act).1.refusal ≡ w.refusal
+act-accepts w (Give d) = refl
+act-accepts w (Throw exception) = refl
+act-accepts w (Ask wanted go) = request-accepts w wanted
 
-pub accepts_callback : (w v : Known) (did : Bool) → CallbackTurn w did v → v.refused ≡ w.refused
-accepts_callback w v true did = same w _ v did.after (carried-accepts w did.task (ready (known w) (call_at w did.task).arguments))
-accepts_callback w v false did = same w _ v did.1 refl
+step-accepts : (w : Known) (ending : Option Ending) → (unless_ended ending w (act_step w (main_left w))).1.refusal ≡ w.refusal
+step-accepts w None = act-accepts w (main_left w)
+step-accepts w (Some ending) = refl
 
-pub accepts_fetch : (w v : Known) (job : Option JobView) → FetchTurn w job v → v.refused ≡ w.refused
-accepts_fetch w v (Some job) did = same w _ v did.after refl
-accepts_fetch w v None did = same w _ v did.1 refl
-
-pub accepts_deliver : (w v : Known) (done : DoneView) (answer : Delivered) → DeliverTurn w done answer v → v.refused ≡ w.refused
-accepts_deliver w v done Taken did = same w _ v did.after refl
-accepts_deliver w v done Stale did = same w _ v did.1 refl
-
-pub accepts_settle : (w v : Known) (did : Bool) → SettleTurn w did v → v.refused ≡ w.refused
-accepts_settle w v true did = same w _ v did.after refl
-accepts_settle w v false did = same w _ v did.1 refl
-
-pub accepts_end : (w v : Known) (did : Bool) → EndTurn w did v → v.refused ≡ w.refused
-accepts_end w v true did = same w _ v did.1 refl
-accepts_end w v false did = same w _ v did.1 refl
+pub accepts_script : (w v : Known) → has_ended w ≡ false → v ≡ (script_step w).1 → v.refusal ≡ None
+accepts_script w v going is = ap (λ (u : Known). u.refusal) is ∙ step-accepts w w.ending ∙ going_accepts w going

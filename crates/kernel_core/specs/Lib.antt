@@ -1,7 +1,9 @@
 pub mod Tasks
 pub mod Jobs
 pub mod Views
-pub mod Next
 pub mod Turned
+pub mod MainTurns
+pub mod MainWalks
+pub mod Refused
 pub mod AnyTurns
 pub mod Parts

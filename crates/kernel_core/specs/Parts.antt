@@ -1,16 +1,18 @@
 -- What a kernel gives back.
-use Rattle.std.specs.Prelude.{List, [], ◌∷◌, map, Option, Some, None, slice_get}
+use Rattle.std.specs.Prelude.{List, [], ◌∷◌, flat_map, Option, Some, None, slice_get}
+use Rattle.flow_base.specs.declared.value.Value.{Value}
+use Rattle.flow_base.specs.declared.outcome.Ending.{Ending}
 use Rattle.flow_base.specs.declared.outcome.Evaluation.{Evaluation}
-use Rattle.flow_base.specs.declared.outcome.Exception.{Exception}
 use Rattle.flow_base.specs.declared.outcome.Outcome.{Outcome}
 use Rattle.flow_base.specs.declared.outcome.TaskEnd.{TaskEnd}
 use Rattle.script_tree.specs.declared.tree.AppDef.{AppDef}
 use Rattle.flow_meaning.specs.Evaluations.{name_in}
-use Rattle.kernel_model.specs.Known.{outcome_in, printed_in}
-use Rattle.kernel_model.specs.Evaluated.{main_ending}
+use Rattle.kernel_model.specs.Known.{outcome_in}
+use Rattle.kernel_model.specs.Evaluated.{ending_or}
 use Rattle.kernel_core.specs.declared.task.Task.{Task}
-use Rattle.kernel_core.specs.declared.kernel.MainStep.{MainStep}
-use Rattle.kernel_core.specs.Tasks.{life_of, act_of}
+use Rattle.kernel_core.specs.declared.run_state.MainStep.{MainStep}
+use Rattle.kernel_core.specs.declared.run_state.MainStep.TheVariants as step
+use Rattle.kernel_core.specs.Tasks.{life_of}
 
 abbrev pub ended_with : List AppDef → Task → Option Outcome → Option TaskEnd
 ended_with apps t None = None
@@ -29,5 +31,12 @@ abbrev pub ends_in : List AppDef → List Task → List TaskEnd
 ends_in apps [] = []
 ends_in apps (t ∷ ts) = with_end (end_of apps t) (ends_in apps ts)
 
-abbrev pub parts_of : List AppDef → List Task → List MainStep → Option Exception → Evaluation
-parts_of apps tasks acts raised = record { printed = printed_in (map act_of acts); tasks = ends_in apps tasks; main = main_ending raised }
+abbrev pub printed_by : MainStep → List Value
+printed_by (step.Print value) = value ∷ []
+printed_by _ = []
+
+abbrev pub printed_in : List MainStep → List Value
+printed_in = flat_map printed_by
+
+abbrev pub parts_of : List AppDef → List Task → List MainStep → Option Ending → Evaluation
+parts_of apps tasks steps ending = record { printed = printed_in steps; tasks = ends_in apps tasks; main = ending_or ending }

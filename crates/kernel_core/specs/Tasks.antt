@@ -1,27 +1,32 @@
--- What the records of a kernel mean.
-use Rattle.std.specs.Prelude.{◌≡◌, ◌≢◌, ℕ, suc, ◌+◌, ◌<◌, List, [], ◌∷◌, length, map, Some, slice_get}
-use Rattle.flow_meaning.specs.Sequential.{Tasks, MainAct, Calls, Waits, Prints}
+-- What the records of tasks and of main's steps mean.
+use Rattle.std.specs.Prelude.{◌≡◌, ◌≢◌, ℕ, suc, ◌+◌, ◌<◌, List, [], ◌∷◌, ◌++◌, length, None, Some, IsSome, slice_get}
+use Rattle.std.proofs.Common.{get_or}
+use Rattle.flow_meaning.specs.declared.walk.Answer.{Answer}
+use Rattle.flow_meaning.specs.declared.walk.Answer.TheVariants as answer
+use Rattle.flow_meaning.specs.Sequential.{Tasks, MainAct, Calls, Waits, Prints, Checkpoints, outcome_answer}
 use Rattle.task_record.specs.declared.status.Status.{Status}
 use Rattle.task_record.specs.declared.status.Status.TheVariants as status
-use Rattle.kernel_model.specs.Known.{Call, Life, path_of, known_from}
+use Rattle.call_rules.specs.Calls.{Call}
+use Rattle.kernel_model.specs.Known.{Life, no_call, no_life, outcome_in, tasks_where}
+use Rattle.kernel_model.specs.Acts.{future_of}
 use Rattle.kernel_core.specs.declared.task.Task.{Task}
-use Rattle.kernel_core.specs.declared.kernel.MainStep.{MainStep}
-use Rattle.kernel_core.specs.declared.kernel.MainStep.TheVariants as act
+use Rattle.kernel_core.specs.declared.run_state.MainStep.{MainStep}
+use Rattle.kernel_core.specs.declared.run_state.MainStep.TheVariants as step
 
 abbrev pub call_of : Task → Call
-call_of t = record { app = t.record.app; arguments = t.record.arguments; names = t.record.names }
+call_of t = record { path = t.record.path; app = t.record.app; arguments = t.record.arguments; names = t.record.names }
 
+-- a task here is no join, so no body of its own ran
 abbrev pub life_of : Task → Life
-life_of t = record { status = t.record.status; attempts = t.record.attempts; cost = t.record.cost; end = t.end }
+life_of t = record { status = t.record.status; attempts = t.record.attempts; cost = t.record.cost; end = t.end; ran = None }
 
--- the settled ones with their outcomes
-abbrev pub known_tasks : List Task → Tasks
-known_tasks ts = known_from 0 (map call_of ts) (map life_of ts)
+-- the settled ones with their outcomes, each with the path of its place
+abbrev pub numbered_from : ℕ → List Task → Tasks
+numbered_from k [] = []
+numbered_from k (t ∷ ts) = tasks_where (record (call_of t) { path = suc k ∷ [] }) (outcome_in (life_of t)) ++ numbered_from (suc k) ts
 
--- each task has the path of its call
-abbrev pub AreNumbered : ℕ → List Task → Type 0
-AreNumbered k [] = Unit {0}
-AreNumbered k (t ∷ ts) = (t.record.path ≡ path_of k) × AreNumbered (suc k) ts
+abbrev pub numbered_tasks : List Task → Tasks
+numbered_tasks = numbered_from 0
 
 -- the task of this number is in this state
 pub record IsIn (ts : List Task) (s : Status) (k : ℕ) : Type 0 where
@@ -34,7 +39,7 @@ pub record IsIn (ts : List Task) (s : Status) (k : ℕ) : Type 0 where
 abbrev pub NoneIn : List Task → Status → Type 0
 NoneIn ts s = (k : ℕ) (t : Task) → slice_get ts k ≡ Some t → t.record.status ≢ s
 
--- an attempt of it runs
+-- how many attempts of a task in this state run
 abbrev pub runs : Status → ℕ
 runs status.Running = 1
 runs _ = 0
@@ -43,7 +48,24 @@ abbrev pub running_in : List Life → ℕ
 running_in [] = 0
 running_in (life ∷ lives) = runs life.status + running_in lives
 
-abbrev pub act_of : MainStep → MainAct
-act_of (act.Call k) = Calls (path_of k)
-act_of (act.Wait k) = Waits (path_of k)
-act_of (act.Print value) = Prints value
+-- ---- main
+
+-- the answer that main was given
+abbrev pub answer_of : List Call → List Life → MainStep → Answer
+answer_of cs lives (step.Call k) = answer.Called (future_of (get_or cs k no_call))
+answer_of cs lives (step.Wait k) = outcome_answer (outcome_in (get_or lives k no_life))
+answer_of cs lives _ = answer.Go
+
+-- what main did then
+abbrev pub acts_of : List Call → MainStep → List MainAct
+acts_of cs (step.Call k) = Calls (get_or cs k no_call).path ∷ []
+acts_of cs (step.Wait k) = Waits (get_or cs k no_call).path ∷ []
+acts_of cs (step.Print value) = Prints value ∷ []
+acts_of cs step.Checkpoint = Checkpoints ∷ []
+
+-- a call that was made is there, and one that was waited for is settled
+abbrev pub AreOver : List Call → List Life → List MainStep → Type 0
+AreOver cs lives [] = Unit {0}
+AreOver cs lives (step.Call k ∷ steps) = (k < length cs) × AreOver cs lives steps
+AreOver cs lives (step.Wait k ∷ steps) = (k < length cs) × IsSome (outcome_in (get_or lives k no_life)) × AreOver cs lives steps
+AreOver cs lives (_ ∷ steps) = AreOver cs lives steps

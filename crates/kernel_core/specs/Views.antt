@@ -1,43 +1,49 @@
--- What the fields of a kernel mean, and how a kernel begins.
-use Rattle.std.specs.Prelude.{◌≡◌, ◌<◌, ◌^◌, ℕ, Bool, true, List, Option, length, map, reverse, drop}
-use Rattle.flow_base.specs.declared.outcome.Exception.{Exception}
-use Rattle.small_tree.specs.declared.small.SmallScript.{SmallScript}
+-- What the fields of a run's state mean, and how a run begins.
+use Rattle.std.specs.Prelude.{◌≡◌, ◌<◌, ◌^◌, ℕ, Bool, List, Option, None, length, map, flat_map, reverse}
+use Rattle.flow_base.specs.declared.outcome.Ending.{Ending}
 use Rattle.script_tree.specs.Grammar.{Tree}
-use Rattle.small_tree.specs.Small.{tree_of}
 use Rattle.event_log.specs.declared.entry.Entry.{Entry}
-use Rattle.flow_meaning.specs.Operators.{Text}
 use Rattle.dependency_graph.specs.declared.monitor.Settlement.{Settlement}
-use Rattle.small_meaning.specs.Plan.{is_sound}
+use Rattle.call_rules.specs.PlainScripts.{NoJoins}
+use Rattle.kernel_model.specs.declared.answers.Refusal.{Refusal}
 use Rattle.kernel_model.specs.Known.{Known}
-use Rattle.kernel_model.specs.Acts.{started_with}
-use Rattle.kernel_core.specs.declared.kernel.MainStep.{MainStep}
+use Rattle.kernel_model.specs.Invariants.{Inv}
+use Rattle.kernel_model.specs.Limits.{stored, passed}
+use Rattle.kernel_model.specs.PlainScripts.{CallsAreNumbered}
 use Rattle.kernel_core.specs.declared.task.Task.{Task}
-use Rattle.kernel_core.specs.Tasks.{call_of, life_of, act_of}
+use Rattle.kernel_core.specs.declared.run_state.MainStep.{MainStep}
+use Rattle.kernel_core.specs.Tasks.{call_of, life_of, answer_of, acts_of, AreOver, running_in}
 
-abbrev pub known_with : SmallScript → ℕ → List Text → Option Exception → List Task → List MainStep → List Entry → Bool → List (List Settlement) → Known
-known_with script done variables raised tasks acts log refused told = record {
-  script = script;
-  rest = drop done script.main;
-  variables = variables;
-  raised = raised;
+abbrev pub known_with : Tree → List Task → List MainStep → Bool → Option Ending → List Entry → Option Refusal → List (List Settlement) → Known
+known_with tree tasks steps arrived ending log refusal told = record {
+  tree = tree;
+  answers = map (answer_of (map call_of tasks) (map life_of tasks)) steps;
+  arrived = arrived;
+  ending = ending;
   calls = map call_of tasks;
   lives = map life_of tasks;
-  acts = map act_of acts;
+  acts = flat_map (acts_of (map call_of tasks)) steps;
   past = reverse log;
-  refused = refused;
+  refusal = refusal;
   told = told;
 }
 
--- the tree of a small script that keeps the static rules, with fewer than 2^32 apps and statements of main
+-- a script that a run may begin with: it has no join apps, and fewer than 2^32 apps
 pub record Opens (tree : Tree) : Type 0 where
-  pub script : SmallScript
-  pub is : tree_of script ≡ tree
-  pub sound : is_sound script ≡ true
-  pub few_apps : length script.apps < 2 ^ 32
-  pub few : length script.main < 2 ^ 32
+  pub plain : NoJoins tree
+  pub few_apps : length tree.0 < 2 ^ 32
 
--- a kernel of this script before any turn
-pub record IsNew (tree : Tree) (told : List (List Settlement)) (w : Known) : Type 0 where
-  pub script : SmallScript
-  pub is : tree_of script ≡ tree
-  pub begins : w ≡ started_with script told
+-- what holds of every run
+pub record IsFact (w : Known) : Type 0 where
+  pub inv : Inv w
+  pub opens : Opens w.tree
+  pub numbered : CallsAreNumbered w
+  -- it is within the limits
+  pub within : passed w ≡ None
+
+-- the counters of a state are right, and each step of main is over
+pub record IsSound (w : Known) (tasks : List Task) (steps : List MainStep) (attempts units : ℕ) : Type 0 where
+  pub fact : IsFact w
+  pub over : AreOver (map call_of tasks) (map life_of tasks) steps
+  pub running : attempts ≡ running_in (map life_of tasks)
+  pub units_are : units ≡ stored w

@@ -1,11 +1,11 @@
 //! Any turns in any order.
 
-ghost use Rattle.std.specs.Prelude.{◌≡◌, All, true, false, OnOk, OnErr};
-ghost use Rattle.kernel_model.specs.Acts.{refused};
+ghost use Rattle.std.specs.Prelude.{◌≡◌, ◌^◌, All, false, None, OnOk, IfErr};
 ghost use Rattle.kernel_model.specs.Known.{has_ended, apps_in};
-ghost use Rattle.kernel_model.specs.Invariants.{Inv};
 ghost use Rattle.kernel_model.specs.Turns.{Extends};
-ghost use Rattle.kernel_core.specs.AnyTurns.{Holds, IsHonest, Does, Took};
+ghost use Rattle.kernel_model.specs.Work.{HasRoom};
+ghost use Rattle.kernel_core.specs.AnyTurns.{Holds, IsHonest, Does, Took, IsTurnRefused, IsCutOff};
+ghost use Rattle.kernel_core.specs.Views.{IsFact};
 
 use crate::job::Done;
 use crate::kernel::Kernel;
@@ -26,10 +26,11 @@ pub enum Turn {
 impl<M: Monitor> Kernel<M> {
     /// What every kernel promises.
     pub fn facts(&self)
-        ensures kept { Inv self.now }
+        ensures fact { IsFact self.now }
         ensures holds { Holds self.now }
+        ensures room { HasRoom (2 ^ 64) self.now }
     {
-        let _ = &self.refused;
+        self.state.facts();
     }
 }
 
@@ -38,8 +39,8 @@ pub fn take_turn<M: Monitor>(kernel: &mut Kernel<M>, turn: Turn) -> Result<(), R
     requires going { has_ended kernel.old ≡ false }
     requires honest { IsHonest (apps_in kernel.old) turn }
     ensures does { OnOk result (Does kernel.old turn kernel.new) }
-    ensures accepted { OnOk result (kernel.new.refused ≡ kernel.old.refused) }
-    ensures refused { OnErr result (kernel.new ≡ refused kernel.old) }
+    ensures accepted { OnOk result (kernel.new.refusal ≡ None) }
+    ensures refused { IfErr result (IsTurnRefused kernel.old turn kernel.new) }
     ensures extends { Extends kernel.old kernel.new }
 {
     match turn {
@@ -70,8 +71,8 @@ pub fn take_turn<M: Monitor>(kernel: &mut Kernel<M>, turn: Turn) -> Result<(), R
 pub fn take_turns<M: Monitor>(kernel: &mut Kernel<M>, turns: Vec<Turn>) -> Result<(), Refusal>
     requires { All (IsHonest (apps_in kernel.old)) turns.items }
     ensures took { Took turns.items kernel.old kernel.new }
-    ensures accepted { OnOk result (kernel.new.refused ≡ kernel.old.refused) }
-    ensures refused { OnErr result ((kernel.old.refused ≡ false) × (kernel.new.refused ≡ true)) }
+    ensures accepted { OnOk result (kernel.new.refusal ≡ kernel.old.refusal) }
+    ensures refused { IfErr result (IsCutOff kernel.old kernel.new) }
     ensures extends { Extends kernel.old kernel.new }
     ensures holds { Holds kernel.new }
 {
@@ -84,8 +85,8 @@ pub fn take_turns<M: Monitor>(kernel: &mut Kernel<M>, turns: Vec<Turn>) -> Resul
 fn take_each<M: Monitor>(kernel: &mut Kernel<M>, turns: Vec<Turn>) -> Result<(), Refusal>
     requires { All (IsHonest (apps_in kernel.old)) turns.items }
     ensures took { Took turns.items kernel.old kernel.new }
-    ensures accepted { OnOk result (kernel.new.refused ≡ kernel.old.refused) }
-    ensures refused { OnErr result ((kernel.old.refused ≡ false) × (kernel.new.refused ≡ true)) }
+    ensures accepted { OnOk result (kernel.new.refusal ≡ kernel.old.refusal) }
+    ensures refused { IfErr result (IsCutOff kernel.old kernel.new) }
     ensures extends { Extends kernel.old kernel.new }
 {
     for turn in turns {

@@ -1,9 +1,9 @@
 //! A list of settlements.
 
-ghost use Rattle.std.specs.Prelude.{◌≡◌, [], IfOk};
+ghost use Rattle.std.specs.Prelude.{◌≡◌, []};
 
+use crate::copies::copy_outcome;
 use dependency_graph::{Monitor, Settlement};
-use flow_base::{FileOut, Files, Outcome};
 use sqlite_items::Items as ListOf;
 use std::alloc::{AllocError, Global};
 
@@ -44,29 +44,4 @@ impl Monitor for Ledger {
         };
         self.settlements.push(settlement)
     }
-}
-
-fn copy_outcome(alloc: Global, outcome: &Outcome) -> Result<Outcome, AllocError>
-    ensures { IfOk result (λ copy. copy ≡ outcome.now) }
-{
-    match outcome {
-        Outcome::Value { value, files } => Ok(Outcome::Value {
-            value: value.copy(alloc)?,
-            files: copy_files(alloc, files.as_slice())?,
-        }),
-        Outcome::Failed(exception) => Ok(Outcome::Failed(exception.copy(alloc)?)),
-    }
-}
-
-fn copy_files(alloc: Global, files: &[FileOut]) -> Result<Files, AllocError>
-    ensures { IfOk result (λ copies. copies ≡ files.now) }
-{
-    let mut copies = Files::new(alloc);
-    for file in files {
-        copies.push(FileOut {
-            name: file.name.copy(alloc)?,
-            content: file.content.copy(alloc)?,
-        })?;
-    }
-    Ok(copies)
 }

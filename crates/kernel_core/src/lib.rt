@@ -1,16 +1,21 @@
 //! The kernel: tasks, main and the one history as a machine whose every turn adds its entries.
 #![tactic(auto)]
 
-mod acts;
 mod any_turns;
+mod copies;
 mod job;
 mod kernel;
 mod ledger;
+mod main_acts;
+mod main_turn;
+mod main_walk;
 mod parts;
 mod reading;
+mod run_state;
 mod task;
+mod task_acts;
+mod task_turns;
 mod turns;
-mod walk;
 
 pub use any_turns::{Turn, take_turns};
 pub use job::{Done, Job};

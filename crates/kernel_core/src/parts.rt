@@ -1,20 +1,18 @@
 //! What a kernel gives back at the end of a run.
 
 ghost use Rattle.std.specs.Prelude.{◌≡◌, map, IfOk};
-ghost use Rattle.small_tree.specs.Small.{app_of};
 ghost use Rattle.history_laws.specs.Reads.{history_of};
-ghost use Rattle.kernel_model.specs.Known.{printed_in};
-ghost use Rattle.kernel_model.specs.Evaluated.{evaluated, main_ending};
-ghost use Rattle.kernel_core.specs.Tasks.{act_of};
-ghost use Rattle.kernel_core.specs.Parts.{parts_of, end_of as the_end, ends_in};
+ghost use Rattle.kernel_model.specs.Evaluated.{evaluated, ending_or as the_ending};
+ghost use Rattle.kernel_core.specs.Parts.{parts_of, end_of as the_end, ends_in, printed_in};
 
-use crate::acts::app_name;
-use crate::kernel::{Kernel, MainStep};
+use crate::kernel::Kernel;
+use crate::main_acts::app_name;
+use crate::run_state::{MainStep, RunState};
 use crate::task::Task;
 use dependency_graph::Monitor;
 use event_log::Entries;
-use flow_base::{Ending, Evaluation, Exception, Items, TaskEnd, TaskEnds};
-use small_tree::small::SmallApp;
+use flow_base::{Ending, Evaluation, Items, TaskEnd, TaskEnds};
+use script_tree::tree::AppDef;
 use std::alloc::{AllocError, Global};
 
 impl<M: Monitor> Kernel<M> {
@@ -25,51 +23,62 @@ impl<M: Monitor> Kernel<M> {
         ensures log { history_of result.1 ≡ self.past }
         ensures monitors { map M.told result.2.items ≡ self.told }
     {
-        let Kernel {
+        let Kernel { state, .. } = self;
+        state.into_parts()
+    }
+}
+
+impl<M: Monitor> RunState<M> {
+    fn into_parts(self) -> (Result<Evaluation, AllocError>, Entries, Vec<M>)
+        ensures evaluation { IfOk result.0 (λ evaluation. evaluation ≡ evaluated self) }
+        ensures log { history_of result.1 ≡ self.past }
+        ensures monitors { map M.told result.2.items ≡ self.told }
+    {
+        let RunState {
             alloc,
             script,
-            raised,
             tasks,
-            acts,
+            steps,
+            ending,
             log,
             monitors,
             ..
         } = self;
-        let evaluation = evaluation_of(alloc, script.apps.as_slice(), tasks, acts, raised);
+        let evaluation = evaluation_of(alloc, script.script().apps(), tasks, steps, ending);
         (evaluation, Entries::from_vec(log), monitors)
     }
 }
 
 fn evaluation_of(
     alloc: Global,
-    apps: &[SmallApp],
+    apps: &[AppDef],
     tasks: Vec<Task>,
-    acts: Vec<MainStep>,
-    raised: Option<Exception>,
+    steps: Vec<MainStep>,
+    ending: Option<Ending>,
 ) -> Result<Evaluation, AllocError>
-    ensures { IfOk result (λ evaluation. evaluation ≡ parts_of (map app_of apps.now) tasks.items acts.items raised) }
+    ensures { IfOk result (λ evaluation. evaluation ≡ parts_of apps.now tasks.items steps.items ending) }
 {
     Ok(Evaluation {
-        printed: printed_values(alloc, acts)?,
+        printed: printed_values(alloc, steps)?,
         tasks: task_ends(alloc, apps, tasks)?,
-        main: ending_of(raised),
+        main: ending_or(ending),
     })
 }
 
-fn printed_values(alloc: Global, acts: Vec<MainStep>) -> Result<Items, AllocError>
-    ensures { IfOk result (λ values. values ≡ printed_in (map act_of acts.items)) }
+fn printed_values(alloc: Global, steps: Vec<MainStep>) -> Result<Items, AllocError>
+    ensures { IfOk result (λ values. values ≡ printed_in steps.items) }
 {
     let mut values = Items::new(alloc);
-    for act in acts {
-        if let MainStep::Print(value) = act {
+    for step in steps {
+        if let MainStep::Print(value) = step {
             values.push(value)?;
         }
     }
     Ok(values)
 }
 
-fn task_ends(alloc: Global, apps: &[SmallApp], tasks: Vec<Task>) -> Result<TaskEnds, AllocError>
-    ensures { IfOk result (λ ends. ends ≡ ends_in (map app_of apps.now) tasks.items) }
+fn task_ends(alloc: Global, apps: &[AppDef], tasks: Vec<Task>) -> Result<TaskEnds, AllocError>
+    ensures { IfOk result (λ ends. ends ≡ ends_in apps.now tasks.items) }
 {
     let mut ends = TaskEnds::new(alloc);
     for task in tasks {
@@ -81,8 +90,8 @@ fn task_ends(alloc: Global, apps: &[SmallApp], tasks: Vec<Task>) -> Result<TaskE
 }
 
 /// The task with its outcome, if it is settled.
-fn end_of(alloc: Global, apps: &[SmallApp], task: Task) -> Result<Option<TaskEnd>, AllocError>
-    ensures { IfOk result (λ end. end ≡ the_end (map app_of apps.now) task) }
+fn end_of(alloc: Global, apps: &[AppDef], task: Task) -> Result<Option<TaskEnd>, AllocError>
+    ensures { IfOk result (λ end. end ≡ the_end apps.now task) }
 {
     let Task { record, end } = task;
     if !record.status().is_settled() {
@@ -98,11 +107,8 @@ fn end_of(alloc: Global, apps: &[SmallApp], task: Task) -> Result<Option<TaskEnd
     }))
 }
 
-fn ending_of(raised: Option<Exception>) -> Ending
-    ensures { result ≡ main_ending raised }
+fn ending_or(ending: Option<Ending>) -> Ending
+    ensures { result ≡ the_ending ending }
 {
-    match raised {
-        Some(exception) => Ending::Raised(exception),
-        None => Ending::Ended,
-    }
+    ending.unwrap_or(Ending::Ended)
 }

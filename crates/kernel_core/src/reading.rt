@@ -1,10 +1,9 @@
 //! What is read from the tasks of a kernel.
 
-ghost use Rattle.std.specs.Prelude.{◌≡◌, ◌≢◌, ℕ, ◌↔◌, MatchOption, IsTrue};
+ghost use Rattle.std.specs.Prelude.{◌≡◌, ◌≢◌, ℕ, suc, [], ◌∷◌, ◌↔◌, MatchOption, IsTrue};
 ghost use Rattle.std.specs.List.{list_all};
 ghost use Rattle.task_record.specs.States.{is_settled};
-ghost use Rattle.kernel_model.specs.Known.{path_of};
-ghost use Rattle.kernel_core.specs.Tasks.{NoneIn, IsIn, known_tasks};
+ghost use Rattle.kernel_core.specs.Tasks.{NoneIn, IsIn, numbered_tasks};
 
 use crate::task::Task;
 use dependency_graph::Outcomes;
@@ -18,7 +17,7 @@ pub struct Settled<'a> {
 }
 
 impl Outcomes for Settled<'_> {
-    ghost tasks = { λ s. known_tasks s.tasks.now };
+    ghost tasks = { λ s. numbered_tasks s.tasks.now };
 
     fn outcome(&self, path: &Path) -> Option<&Outcome> {
         let k = call_number(path)?;
@@ -28,7 +27,7 @@ impl Outcomes for Settled<'_> {
 
 /// The number of the call of main that has this path, from 0.
 pub fn call_number(path: &Path) -> Option<usize>
-    ensures { MatchOption result ((k : ℕ) → path.now ≢ path_of k) (λ k. path.now ≡ path_of k) }
+    ensures { MatchOption result ((k : ℕ) → path.now ≢ suc k ∷ []) (λ k. path.now ≡ suc k ∷ []) }
 {
     match path.as_slice() {
         [number] if *number > 0 => Some(*number as usize - 1),

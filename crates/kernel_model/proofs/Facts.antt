@@ -1,49 +1,45 @@
--- What every kernel promises: its history is legal, and what has settled is what the sequential evaluation gives.
-use Rattle.std.proofs.Common.{◌≡◌, ℕ, suc, true, List, [], ◌∷◌, ◌++◌, map, Option, Some, None, refl, sym, ◌∙◌, ap}
-use Rattle.std.specs.Prelude.{◌||◌, is_some, Result}
-use Rattle.flow_base.specs.declared.value.Value.{Value}
+-- What a kernel's invariant says of its history, and each turn of main.
+use Rattle.std.proofs.Common.{◌≡◌, ℕ, Bool, true, false, List, [], ◌∷◌, Option, Some, None, refl, sym, subst}
+use Rattle.flow_base.specs.declared.value.Value.{Value, out-Value}
 use Rattle.flow_base.specs.declared.outcome.Ending.{Ending}
-use Rattle.flow_base.specs.declared.outcome.Evaluation.{Evaluation}
-use Rattle.flow_base.specs.declared.outcome.Exception.{Exception}
+use Rattle.flow_base.specs.declared.outcome.Ending.TheVariants as ending
 use Rattle.flow_base.specs.declared.outcome.Outcome.{Outcome}
-use Rattle.flow_base.specs.declared.outcome.TaskEnd.{TaskEnd}
-use Rattle.script_tree.specs.declared.tree.AppDef.{AppDef}
-use Rattle.small_tree.specs.declared.small.SmallScript.{SmallScript}
-use Rattle.small_tree.specs.declared.small.SmallStatement.{SmallStatement}
-use Rattle.small_tree.specs.Small.{tree_of}
 use Rattle.event_log.specs.declared.entry.Entry.TheVariants as entry
-use Rattle.flow_meaning.specs.Evaluations.{evaluation_in, task_end}
+use Rattle.flow_meaning.specs.declared.walk.Request.{Request}
+use Rattle.flow_meaning.specs.declared.walk.Request.TheVariants as request
+use Rattle.flow_meaning.specs.Act.{Act, Give, Throw, Ask}
+use Rattle.flow_meaning.specs.Inputs.{Path, path_in}
 use Rattle.flow_meaning.specs.Meaning.{Done}
-use Rattle.flow_meaning.specs.Operators.{Text}
-use Rattle.flow_meaning.specs.Sequential.{outcome_at, seq, sequential, ending_of, Main, Rule, perform, main_answer}
+use Rattle.flow_meaning.specs.Sequential.{apply, outcome_at, seq}
+use Rattle.call_rules.specs.Calls.{Begin, Fails, Attempts, Joins, join_dry}
+use Rattle.history_laws.specs.Legal.{Holds as LawHolds, IsLegal, IsComplete}
 use Rattle.history_laws.specs.Laws.{SettlingLaw}
-use Rattle.history_laws.specs.Reads.{History, lost, has_end}
+use Rattle.history_laws.specs.Reads.{History, has_end, lost}
 use Rattle.history_laws.specs.Tables.{table}
-use Rattle.history_laws.specs.Legal.{IsLegal, IsComplete, Holds}
 use Rattle.history_laws.specs.declared.table.Table.{Table}
-use Rattle.kernel_model.specs.Known.{Known, Call, Life, Losses, no_retries, path_of, outcome_in, settled_outcome, tasks_where, known_from, IsDone, apps_in, printed_in, rule_in, main_at, main_left, is_empty, rest_or_raised}
+use Rattle.kernel_model.specs.Known.{Known, path_at, settled_outcome, known, begin_at, main_left, no_retries, has_ended, apps_in}
+use Rattle.script_tree.specs.declared.tree.AppDef.{AppDef}
+use Rattle.script_tree.specs.Grammar.{Tree}
+use Rattle.flow_meaning.specs.Operators.{Text}
+use Rattle.flow_meaning.specs.Walk.{body_act}
+use Rattle.body_requests.specs.Asks.{Each, IsPlain, AsksTold, EndsPlain}
 use Rattle.kernel_model.specs.Invariants.{Inv}
-use Rattle.kernel_model.specs.Evaluated.{evaluated, ended_task, ends_from, main_ending}
-use Rattle.kernel_model.proofs.Places.{known-at}
-use Rattle.kernel_model.proofs.Filling.{knows, known-on, performs-on, nothing-left, done-filled}
+use Rattle.kernel_model.specs.Conditions.{MainAsks}
+use Rattle.kernel_model.specs.Turns.{CarriesOut, begins, ends, carried_out, outcome_step, unsettled_step, wait_step, request_step, act_step, unless_ended, script_step}
+use Rattle.kernel_model.proofs.KeepingTasks.{keep-launched, keep-failed, keep-join-ended}
+use Rattle.kernel_model.proofs.KeepingSubmits.{keep-joined}
+use Rattle.kernel_model.proofs.KeepingMain.{keep-called, keep-waited-value, keep-waited-name, keep-unwaited-value, keep-unwaited-name, keep-printed, keep-checkpointed, keep-arrived, keep-main-ended}
+use Rattle.call_rules.specs.Told.{IsTold}
 
-pub legal-now : (w : Known) → Inv w → IsLegal no_retries (table (tree_of w.script) (lost w.past)) w.past
-legal-now w inv = inv.legal (table (tree_of w.script) (lost w.past)) (knows w inv (lost w.past) inv.fits)
+-- the history is legal, read with the losses that it tells
+pub legal-now : (w : Known) → Inv w → IsLegal no_retries (table w.tree (lost w.past)) w.past
+legal-now w inv = inv.holds.right.legal (lost w.past) inv.holds.right.fits
 
-pub outcome-now : (w : Known) → Inv w → (k : ℕ) (outcome : Outcome) → settled_outcome w k ≡ Some outcome → outcome_at (seq (tree_of w.script).0 (tree_of w.script).1 (lost w.past)).tasks (path_of k) ≡ Some outcome
-unfolding seq
-outcome-now w inv k outcome h =
-    let losses : Losses = lost w.past in
-    let used : Rule = rule_in losses w in
-    let whole : Main = (perform (main_answer used) (main_left w) (main_at losses w)).1 in
-    ap (λ (r : Result Done Exception × Main). outcome_at r.1.made.tasks (path_of k)) (inv.goes_on losses inv.fits)
-    ∙ known-on w inv losses inv.fits whole (performs-on used (main_left w) (main_at losses w)) (path_of k) outcome (known-at w k inv.lives ∙ h)
-
--- no entry but the newest is the end
-end_newest : (z : Table) (b : History) → Holds (SettlingLaw z) b → has_end b ≡ true → IsComplete b
+end_newest : (z : Table) (b : History) → LawHolds (SettlingLaw z) b → has_end b ≡ true → IsComplete b
 end_newest z [] law h = absurd (cc)
 end_newest z (entry.End ∷ b) law h = record { before = b; ends = refl }
 end_newest z (entry.Submit p app ∷ b) law h = absurd (let open_yet = law.0.open_yet in cc)
+end_newest z (entry.JoinRun p ∷ b) law h = absurd (let open_yet = law.0.open_yet in cc)
 end_newest z (entry.Launch p n ∷ b) law h = absurd (let open_yet = law.0.open_yet in cc)
 end_newest z (entry.Start p n manager ∷ b) law h = absurd (let open_yet = law.0.open_yet in cc)
 end_newest z (entry.Ended p n manager kind ∷ b) law h = absurd (let open_yet = law.0.open_yet in cc)
@@ -51,42 +47,77 @@ end_newest z (entry.Settled p s ∷ b) law h = absurd (let open_yet = law.0.open
 
 -- where the end stands, it is the last entry
 pub complete-now : (w : Known) → Inv w → has_end w.past ≡ true → IsComplete w.past
-complete-now w inv h = end_newest (table (tree_of w.script) (lost w.past)) w.past (legal-now w inv).settling h
+complete-now w inv h = end_newest (table w.tree (lost w.past)) w.past (legal-now w inv).settling h
 
--- the settled tasks are given as the evaluation gives tasks
-ends_known : (apps : List AppDef) (k : ℕ) (calls : List Call) (lives : List Life) → ends_from apps k calls lives ≡ map (task_end apps) (known_from k calls lives)
-ends_known apps k [] lives = refl
-ends_known apps k (c ∷ cs) [] = refl
-ends_known apps k (c ∷ cs) (life ∷ lives) = by_outcome (outcome_in life) (ends_known apps (suc k) cs lives)
+-- ---- a turn of main
+
+keep_unsettled : (w : Known) (p : Path) (arrived : Bool) → Inv w → Inv (unsettled_step w p arrived).1
+keep_unsettled w p true inv = inv
+keep_unsettled w p false inv = keep-arrived w inv
+
+keep_wait_value : (w : Known) (f : Value) → Inv w → MainAsks w (request.WaitValue f) → Inv (wait_step w (path_in (out-Value f))).1
+keep_wait_value w f inv asks = by_path (path_in (out-Value f)) refl
   where
-    by_outcome : (f : Option Outcome) → ends_from apps (suc k) cs lives ≡ map (task_end apps) (known_from (suc k) cs lives)
-        → ended_task apps k c f ++ ends_from apps (suc k) cs lives ≡ map (task_end apps) (tasks_where k c f ++ known_from (suc k) cs lives)
-    by_outcome None further = further
-    by_outcome (Some outcome) further = ap (λ (ends : List TaskEnd). ended_task apps k c (Some outcome) ++ ends) further
+    by_outcome : (p : Path) (qs : List Path) (r : Option Outcome) → path_in (out-Value f) ≡ p ∷ qs → outcome_at (known w) p ≡ r → Inv (outcome_step w p r).1
+    by_outcome p qs None at e = keep_unsettled w p w.arrived inv
+    by_outcome p qs (Some outcome) at e = keep-waited-value w f p qs outcome inv asks at e
 
--- main that is over has ended so
-over_ending : (script : SmallScript) (rest : List SmallStatement) (variables : List Text) (raised : Option Exception) → (is_some raised || is_empty rest) ≡ true → (r : Rule) (m : Main)
-    → main_ending raised ≡ ending_of (perform (main_answer r) (rest_or_raised script rest variables raised) m).0
-over_ending script rest variables (Some exception) h r m = refl
-over_ending script [] variables None h r m = refl
-over_ending script (s ∷ rest) variables None h r m = absurd (cc)
+    by_path : (ps : List Path) → path_in (out-Value f) ≡ ps → Inv (wait_step w ps).1
+    by_path [] at = keep-unwaited-value w f inv asks at
+    by_path (p ∷ qs) at = by_outcome p qs (outcome_at (known w) p) at refl
 
-abbrev given : List Value → List TaskEnd → Ending → Evaluation
-given printed tasks ending = record { printed = printed; tasks = tasks; main = ending }
+keep_wait_name : (w : Known) (f : Value) → Inv w → MainAsks w (request.WaitName f) → Inv (wait_step w (path_in (out-Value f))).1
+keep_wait_name w f inv asks = by_path (path_in (out-Value f)) refl
+  where
+    by_outcome : (p : Path) (qs : List Path) (r : Option Outcome) → path_in (out-Value f) ≡ p ∷ qs → outcome_at (known w) p ≡ r → Inv (outcome_step w p r).1
+    by_outcome p qs None at e = keep_unsettled w p w.arrived inv
+    by_outcome p qs (Some outcome) at e = keep-waited-name w f p qs outcome inv asks at e
 
--- where all is done, the kernel gives the sequential evaluation
-pub evaluation-now : (w : Known) → Inv w → IsDone w → evaluated w ≡ evaluation_in (apps_in w) (seq (tree_of w.script).0 (tree_of w.script).1 (lost w.past))
+    by_path : (ps : List Path) → path_in (out-Value f) ≡ ps → Inv (wait_step w ps).1
+    by_path [] at = keep-unwaited-name w f inv asks at
+    by_path (p ∷ qs) at = by_outcome p qs (outcome_at (known w) p) at refl
+
+keep_request : (w : Known) (wanted : Request) → Inv w → MainAsks w wanted → Inv (request_step w wanted).1
+keep_request w (request.Call app arguments names) inv asks = keep-called w app arguments names inv asks
+keep_request w (request.WaitValue f) inv asks = keep_wait_value w f inv asks
+keep_request w (request.WaitName f) inv asks = keep_wait_name w f inv asks
+keep_request w (request.Print value) inv asks = keep-printed w value inv asks
+keep_request w request.Checkpoint inv asks = keep-checkpointed w inv asks
+
+pub keep-script-step : (w : Known) → Inv w → has_ended w ≡ false → Inv (script_step w).1
+keep-script-step w inv not_ended = by_ending w.ending refl
+  where
+    by_act : (a : Act Done) → w.ending ≡ None → main_left w ≡ a → Inv (act_step w a).1
+    by_act (Give d) going left = keep-main-ended w ending.Ended inv (record { not_ended = not_ended; going = going; ends = rw left refl })
+    by_act (Throw exception) going left = keep-main-ended w (ending.Raised exception) inv (record { not_ended = not_ended; going = going; ends = rw left refl })
+    by_act (Ask wanted go) going left = keep_request w wanted inv (record { not_ended = not_ended; going = going; go = go; left = left })
+
+    by_ending : (e : Option Ending) → w.ending ≡ e → Inv (unless_ended e w (act_step w (main_left w))).1
+    by_ending None going = by_act (main_left w) going refl
+    by_ending (Some e) going = inv
+
+-- ---- a callback
+
+pub keep-carried-out : (w v : Known) → Inv w → has_ended w ≡ false → CarriesOut w v → Inv v
+keep-carried-out w v inv not_ended (begins k callback after) = subst Inv (sym after) (by_begin (begin_at w k) refl)
+  where
+    by_begin : (b : Begin) → begin_at w k ≡ b → Inv (carried_out w k b)
+    by_begin (Fails exception) is = keep-failed w k exception inv (record { not_ended = not_ended; callback = callback; begins = is })
+    by_begin (Attempts app values) is = keep-launched w k inv (record { not_ended = not_ended; callback = callback; app = app; values = values; begins = is })
+    by_begin (Joins app values) is = keep-joined w k (join_dry (apps_in w) (path_at w k) app values) inv (record { not_ended = not_ended; callback = callback; app = app; values = values; begins = is; is = refl })
+keep-carried-out w v inv not_ended (ends k is after) = subst Inv (sym after) (keep-join-ended w k _ inv (record { not_ended = not_ended; done = is; is = refl }))
+
+-- what has settled has its outcome in the evaluation
+pub outcome-now : (w : Known) → Inv w → (k : ℕ) (outcome : Outcome) → settled_outcome w k ≡ Some outcome → outcome_at (seq w.tree.0 w.tree.1 (lost w.past)).tasks (path_at w k) ≡ Some outcome
 unfolding seq
-evaluation-now w inv done =
-    let losses : Losses = lost w.past in
-    let used : Rule = rule_in losses w in
-    let apps : List AppDef = apps_in w in
-    let m : Main = main_at losses w in
-    let whole : Result Done Exception × Main = perform (main_answer used) (main_left w) m in
-    let tasks : ends_from apps 0 w.calls w.lives ≡ map (task_end apps) m.made.tasks
-    = ends_known apps 0 w.calls w.lives ∙ ap (map (task_end apps)) (sym (done-filled w inv losses inv.fits done.settled)) in
-    let left : whole.1 ≡ m = nothing-left w.script w.rest w.variables w.raised done.over used m in
-    ap (λ (ends : List TaskEnd). given (printed_in w.acts) ends (main_ending w.raised)) tasks
-    ∙ ap (given (printed_in w.acts) (map (task_end apps) m.made.tasks)) (over_ending w.script w.rest w.variables w.raised done.over used m)
-    ∙ ap (λ (n : Main). given n.printed (map (task_end apps) n.made.tasks) (ending_of whole.0)) (sym left)
-    ∙ ap (λ (r : Result Done Exception × Main). evaluation_in apps (sequential r)) (sym (inv.goes_on losses inv.fits))
+outcome-now w inv k outcome h = (inv.holds.right.evaluates (lost w.past) inv.holds.right.fits).agrees k outcome h
+
+-- two laws of all bodies give what a kernel takes of its script
+pub told-by-laws : ((s : Tree) (app : Option AppDef) (arguments : List Value) → Each IsPlain arguments → AsksTold [] (body_act s app arguments))
+    → ((app : AppDef) (arguments : List Value) (names : List Text) → Each IsPlain arguments → EndsPlain (apply app arguments names))
+    → (tree : Tree) → IsTold tree
+told-by-laws bodies apps tree = record {
+  main = bodies tree None [] tt;
+  joins = λ k app values at plain. bodies tree (Some app) values plain;
+  plain = λ k app values names at plain. apps app values names plain;
+}

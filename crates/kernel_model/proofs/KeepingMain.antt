@@ -1,488 +1,507 @@
 -- Each act of main keeps what a kernel keeps.
-use Rattle.std.proofs.Common.{◌≡◌, ◌≢◌, ℕ, zero, suc, ◌+◌, ◌<◌, ◌≤◌, Bool, true, false, List, [], ◌∷◌, ◌++◌, length, map, Option, Some, None, IsSome, get_or, refl, sym, ◌∙◌, ap, subst, arith, bytes_eq, length-append, append-nil, zero-add, inl, inr}
-use Rattle.std.specs.Prelude.{slice_get, ◌^◌, Result, if◌then◌else◌}
-use Rattle.std.specs.List.{list_all}
-use Rattle.std.proofs.lemmas.Bool.{cases_eq, or_parts}
-use Rattle.std.proofs.lemmas.List.{get_or_append_left, get_or_push, get_or_past}
-use Rattle.flow_base.specs.declared.value.Value.{Value, out-Value, out-roll-Value}
-use Rattle.flow_base.specs.declared.value.Value.TheOpen.{Value-F}
+use Rattle.std.proofs.Common.{◌≡◌, ◌≢◌, ℕ, suc, ◌+◌, ◌<◌, ◌≤◌, Bool, true, false, List, [], ◌∷◌, ◌++◌, length, Option, Some, None, IsSome, refl, sym, ◌∙◌, ap, subst, arith, append-nil, inl, inr}
+use Rattle.std.specs.Prelude.{slice_get, Result, option_map}
+use Rattle.std.proofs.lemmas.Bool.{cases_lt}
+use Rattle.flow_base.specs.declared.value.Value.{Value, out-Value}
 use Rattle.flow_base.specs.declared.value.Value.TheVariants as v
-use Rattle.flow_base.specs.declared.outcome.FileOut.{FileOut}
+use Rattle.flow_base.specs.declared.outcome.Ending.{Ending}
 use Rattle.flow_base.specs.declared.outcome.Exception.{Exception}
 use Rattle.flow_base.specs.declared.outcome.Outcome.{Outcome}
-use Rattle.flow_base.specs.declared.outcome.Outcome.TheVariants as o
-use Rattle.small_tree.specs.declared.small.SmallScript.{SmallScript}
-use Rattle.small_tree.specs.declared.small.SmallStatement.{SmallStatement}
-use Rattle.small_tree.specs.declared.small.SmallStatement.TheVariants as small
-use Rattle.small_tree.specs.declared.small.Operand.{Operand}
-use Rattle.small_tree.specs.Small.{tree_of}
-use Rattle.task_record.specs.declared.status.Status.{Status}
-use Rattle.task_record.specs.declared.status.Status.TheVariants as status
-use Rattle.task_record.specs.States.{is_settled}
-use Rattle.event_log.specs.declared.entry.Entry.{Entry}
-use Rattle.event_log.specs.declared.entry.Entry.TheVariants as entry
+use Rattle.script_tree.specs.Grammar.{Tree}
+use Rattle.dependency_graph.specs.declared.monitor.Settlement.{Settlement}
+use Rattle.flow_meaning.specs.declared.walk.Request.{Request}
 use Rattle.flow_meaning.specs.declared.walk.Request.TheVariants as request
 use Rattle.flow_meaning.specs.declared.walk.Answer.{Answer}
 use Rattle.flow_meaning.specs.declared.walk.Answer.TheVariants as answer
-use Rattle.flow_meaning.specs.Act as flow
-use Rattle.flow_meaning.specs.Inputs.{Path, path_in}
-use Rattle.flow_meaning.specs.Meaning.{Done}
+use Rattle.flow_meaning.specs.Act.{Act, Give, Throw, Ask, after}
 use Rattle.flow_meaning.specs.Evaluations.{name_in}
+use Rattle.flow_meaning.specs.Inputs.{Path, inputs, path_in}
+use Rattle.flow_meaning.specs.Meaning.{Done}
 use Rattle.flow_meaning.specs.Operators.{Text}
-use Rattle.flow_meaning.specs.Sequential.{outcome_of, Made, no_calls, Main, MainAct, Calls, Waits, Prints, Rule, rule, makes, perform, main_answer, main_ran, at_start, waits, acted, outcome_answer, main_room}
+use Rattle.flow_meaning.specs.Walk.{main_act}
+use Rattle.flow_meaning.specs.Sequential.{Tasks, outcome_at, Made, no_calls, Main, MainAct, Calls, Waits, Prints, Checkpoints, Rule, rule, makes, perform, main_answer, main_ran, at_start, waits, acted, outcome_answer, main_room}
+use Rattle.body_requests.specs.Asks.{Each, IsAnswer, told_by}
 use Rattle.history_laws.specs.declared.table.MainEvent.{MainEvent}
 use Rattle.history_laws.specs.declared.table.MainEvent.TheVariants as act
-use Rattle.history_laws.specs.Reads.{History, is_submitted, settled, has_end, lost}
-use Rattle.history_laws.specs.Tables.{calls_in, waits_before, acts_of}
-use Rattle.history_laws.specs.Laws.{AllSettled}
-use Rattle.small_meaning.specs.Ints.{knows_parameters}
-use Rattle.small_meaning.specs.Plan.{is_sound, is_sound_main, place_of, argument_in}
-use Rattle.small_meaning.specs.Steps.{future_at, small_rest}
-use Rattle.small_meaning.proofs.Sums.{and-true}
-use Rattle.small_meaning.proofs.Runs.{arguments-within, length-operands}
-use Rattle.small_meaning.proofs.Whole.{sound-call, sound-print}
-use Rattle.small_meaning.proofs.Steps.{asks-call, asks-result, main-starts}
-use Rattle.kernel_model.specs.Known.{Known, Call, Life, no_call, no_life, no_retries, path_of, call_at, life_at, status_at, outcome_in, settled_outcome, inputs_at, known, end_at, Losses, rule_in, filled, main_at, main_left, is_main_over, IsDone, has_ended, apps_in, printed_in}
-use Rattle.kernel_model.specs.Invariants.{AllValues, IsSmallCall, IsLife, HasRun, FitsAt, Fits, WaitsSettled, Inv, Grows}
-use Rattle.dependency_graph.specs.declared.monitor.Settlement.{Settlement}
-use Rattle.kernel_model.specs.Acts.{pending, call_of, started_with, submitted, printed, raised_by, over, refused}
-use Rattle.kernel_model.specs.Conditions.{CanSubmit, CanPrint, CanRaise, CanEnd}
-use Rattle.kernel_model.proofs.Places.{path-same, settled-within, run-within, known-push}
-use Rattle.kernel_model.proofs.Reading.{submit-life, end-life, waits-stay, waits-append, calls-append, waits_before-append, waits_before-settled, acts_of-append, printed-append}
-use Rattle.kernel_model.proofs.Filling.{filled-push, filled-count, fits-filled}
-use Rattle.kernel_model.proofs.Growing.{fits-back, knows-back}
+use Rattle.history_laws.specs.declared.table.Expected.{Expected}
+use Rattle.call_rules.specs.Calls.{Losses, Call, child, found, calls_below}
+use Rattle.history_laws.specs.Reads.{Due, one_more, submits, due, has_end, lost}
+use Rattle.history_laws.specs.Tables.{task_at, calls_in, waits_before, acts_of, table}
+use Rattle.history_laws.specs.Laws.{stands, AllSettled}
+use Rattle.call_rules.specs.Groups.{IsGroup, IsPlainOutcome, HasTask}
+use Rattle.kernel_model.specs.declared.answers.Refusal.{Refusal}
+use Rattle.kernel_model.specs.Known.{Known, call_at, path_at, life_at, known, main_rule, main_left, printed_in, apps_in, next_path, IsDone}
+use Rattle.kernel_model.specs.Invariants.{IsOf, of_main, of_join, IsDue, FitsLosses, FollowsEvaluation, WaitsSettled, EndsSo, Tracks, MainDid, IsConsistent, IsQuiet, Inv, GrowsInto}
+use Rattle.kernel_model.specs.Acts.{started_with, submit_of, answered, call_of, future_of, called, waited, printed, checkpointed, arrived_at, main_ended, refused}
+use Rattle.kernel_model.specs.Conditions.{MainAsks, CanEndMain}
+use Rattle.call_rules.proofs.Tasks.{found-front, found-some, outcome-found, some-of, keeps-front, keeps-task, parent-same, child-same}
+use Rattle.call_rules.proofs.Asking.{asks-inputs, asks-call, asks-on, asks-wait, is-answer}
+use Rattle.call_rules.proofs.Evaluating.{one-more, rule-rules, none-made, children-known}
+use Rattle.kernel_model.proofs.Places.{known-settled, settled-within, run-within, ran-within, known-push, pushed-cases, length-pushed}
+use Rattle.kernel_model.proofs.Reading.{waits-stay, waits-append, calls-append, waits_before-append, waits_before-settled, acts_of-append, printed-append}
+use Rattle.kernel_model.proofs.Growing.{fits-on, fits-back}
+use Rattle.kernel_model.proofs.Knowing.{knows-call, known-whole, whole-on, performs-on, acts-are}
+use Rattle.kernel_model.proofs.KeepingPut.{joined-on, open-yet, free-yet, attempted-on, family-on}
+use Rattle.kernel_model.proofs.KeepingTasks.{path-long}
+use Rattle.kernel_model.proofs.KeepingSubmits.{grown, new-call, old-call, submit-grows, by-place, submit-tracks, submit-runs, submit-joins, submit-fits, submit-back, submit-placed, submit-agrees}
+use Rattle.history_laws.proofs.Dues.{due_of, due-path, due-count}
+use Rattle.call_rules.specs.Told.{whole_ran, whole, IsChild, Asks, IsTold}
+
+-- ---- what is left after one more answer
+
+pub after-more : (a : Act Done) (rs : List Answer) (r : Answer) → after a (rs ++ r ∷ []) ≡ after (after a rs) (r ∷ [])
+after-more a [] r = refl
+after-more (Give d) (s ∷ rs) r = refl
+after-more (Throw exception) (s ∷ rs) r = refl
+after-more (Ask wanted go) (s ∷ rs) r = after-more (go s) rs r
+
+-- main goes on with the answer
+pub left-after : (w : Known) (wanted : Request) (go : Answer → Act Done) (r : Answer) → main_left w ≡ Ask wanted go → after (main_act w.tree) (w.answers ++ r ∷ []) ≡ go r
+left-after w wanted go r left = after-more (main_act w.tree) w.answers r ∙ ap (λ (a : Act Done). after a (r ∷ [])) left
 
 -- ---- the start
 
--- main is what is left of it
-starts-with : (script : SmallScript) (losses : Losses) → main_ran (tree_of script).0 (tree_of script).1 losses ≡ perform (main_answer (rule (tree_of script).0 losses main_room)) (small_rest script script.main []) at_start
+start-goes : (tree : Tree) (losses : Losses) → whole_ran tree losses ≡ perform (main_answer (rule tree.0 losses main_room)) (main_act tree) at_start
 unfolding main_ran
-starts-with script losses = ap (λ (left : flow.Act Done). perform (main_answer (rule (tree_of script).0 losses main_room)) left at_start) (main-starts script)
+start-goes tree losses = refl
 
-pub keep-start : (script : SmallScript) (told : List (List Settlement)) → is_sound script ≡ true → length script.main < 2 ^ 32 → Inv (started_with script told)
-keep-start script told sound few = record {
-  sound = sound;
-  few = few;
-  bound = omega arith;
-  mains = (and-true (list_all knows_parameters script.apps) (is_sound_main script.apps [] script.main) sound).1;
-  variables = refl;
-  lives = refl;
-  count = refl;
-  there = λ k h. absurd (omega arith);
-  tracks = λ k. record { reached = tt; first = λ h. refl; opened = λ h. record { attempts = refl; costs = refl; stage = refl; last = refl; unsettled = refl }; closed = λ h. absurd (cc) };
-  begun = λ k h. absurd (omega arith);
-  small = λ k h. absurd (omega arith);
-  ints = λ k value files h. absurd (cc);
-  ready = λ k h. absurd h;
-  ended = λ k outcome h. absurd (cc);
-  called = refl;
+pub keep-start : (tree : Tree) (told : List (List Settlement)) → IsTold tree → Inv (started_with tree told)
+keep-start tree told is = record {
+  holds = record {
+    told = is;
+    tracks = record {
+      lives = refl;
+      distinct = λ j k h. absurd (omega arith);
+      there = λ k h. absurd (omega arith);
+      lived = λ k h. absurd (omega arith);
+      none = λ p ne. record { reached = refl; first = λ h. refl; joined = refl; opened = λ h. record { attempts = refl; costs = refl; stage = refl; last = refl; unsettled = refl }; closed = λ h. absurd (cc) };
+      begun = λ k h. absurd (omega arith);
+      family = λ k h. absurd (omega arith);
+    };
+    runs = record { attempted = λ k h. absurd h; ended = λ k outcome h. absurd (cc) };
+    joins = record { ran = λ k result h. absurd (cc); settled = λ k outcome h. absurd (cc); is_due = λ p n h. absurd (cc) };
+    main = record {
+      asks = record { paths = []; told = is.main; made = tt };
+      mains = λ i h. absurd (omega arith);
+      called = refl;
+      waits = tt;
+      ended = λ e h. absurd (cc);
+    };
+    right = record {
+      fits = λ k outcome h. absurd (cc);
+      evaluates = λ losses h. record {
+        made = no_calls;
+        count = refl;
+        group = none-made tree.0 losses [];
+        goes_on = start-goes tree losses;
+        placed = λ k h2. absurd (omega arith);
+        agrees = λ k outcome h2. absurd (cc);
+      };
+      legal = λ losses h. record { settling = tt; launching = tt; attempts = tt; managers = tt };
+      ends = λ h. absurd (cc);
+    };
+  };
+  quiet = λ k n h. absurd (omega arith);
+}
+
+-- ---- acts that write no entry
+
+-- main and the refusal changed alone
+abbrev pub main_with : Known → List Answer → Bool → Option Ending → List MainAct → Option Refusal → Known
+main_with w answers arrived ending acts refusal = record w { answers = answers; arrived = arrived; ending = ending; acts = acts; refusal = refusal }
+
+module _ (w : Known) (answers : List Answer) (arrived : Bool) (ending : Option Ending) (acts : List MainAct) (refusal : Option Refusal) where
+  abbrev pub now : Known
+  now = main_with w answers arrived ending acts refusal
+
+  pub main-grows : GrowsInto w now
+  main-grows = record { tree = refl; outcome = λ k outcome h. h; calls = omega arith; call = λ k h. refl }
+
+  pub main-tracks : Inv w → Tracks now
+  main-tracks inv =
+      let tw = inv.holds.tracks in
+      record {
+        lives = tw.lives;
+        distinct = tw.distinct;
+        there = tw.there;
+        lived = tw.lived;
+        none = tw.none;
+        begun = tw.begun;
+        family = λ k h. family-on w now main-grows (λ j ran. ran) (omega arith) k h (tw.family k h);
+      }
+
+  main_due : (p : Path) (n : ℕ) → IsDue w p n → IsDue now p n
+  main_due p n d = record { place = d.place; within = d.within; is = d.is; ran = d.ran; fresh = d.fresh }
+
+  -- what is kept of tasks; main's part and the theorem's two parts aside
+  pub main-holds : Inv w → MainDid now → ((losses : Losses) → FitsLosses losses w → FollowsEvaluation losses w → FollowsEvaluation losses now) → (has_end w.past ≡ true → IsDone now) → Inv now
+  main-holds inv did evaluates ends =
+      let h = inv.holds in
+      let tw = h.tracks in
+      let tv = main-tracks inv in
+      let back : (losses : Losses) → FitsLosses losses now → FitsLosses losses w = fits-back w now tw tv main-grows (lost w.past) h.right.fits in
+      record {
+        holds = record {
+          told = h.told;
+          tracks = tv;
+          runs = record {
+            attempted = λ k r. attempted-on w now tw tv main-grows k (run-within w tw.lives k r) (h.runs.attempted k r);
+            ended = h.runs.ended;
+          };
+          joins = record {
+            ran = λ k result g. joined-on w now inv tv main-grows k result (ran-within w tw.lives k (some-of (life_at w k).ran result g)) (h.joins.ran k result g);
+            settled = h.joins.settled;
+            is_due = λ p n g. main_due p n (h.joins.is_due p n g);
+          };
+          main = did;
+          right = record {
+            fits = λ k outcome g. fits-on w now tw tv main-grows (lost w.past) k outcome (settled-within w tw.lives k outcome g) (h.right.fits k outcome g);
+            evaluates = λ losses f. evaluates losses (back losses f) (h.right.evaluates losses (back losses f));
+            legal = λ losses f. h.right.legal losses (back losses f);
+            ends = ends;
+          };
+        };
+        quiet = inv.quiet;
+      }
+
+-- ---- an answer that isn't a call's
+
+-- main's state in an evaluation
+abbrev main_at : Known → Made → Main
+main_at w made = record { made = made; acts = w.acts; printed = printed_in w.acts }
+
+-- what an answer other than a call's has to show
+record CanAnswer (w : Known) (wanted : Request) (r : Answer) (acts : List MainAct) : Type 0 where
+  is_answer : IsAnswer r
+  untold : told_by r ≡ []
+  no_calls : calls_in (acts_of acts) ≡ 0
+  waits : WaitsSettled (acts_of acts) w.past
+  answers : (losses : Losses) → (e : FollowsEvaluation losses w) → main_answer (main_rule w losses) wanted (main_at w e.made) ≡ (r, record { made = e.made; acts = w.acts ++ acts; printed = printed_in (w.acts ++ acts) })
+
+keep_answered : (w : Known) (wanted : Request) (r : Answer) (acts : List MainAct) → Inv w → MainAsks w wanted → CanAnswer w wanted r acts → Inv (answered w r acts)
+keep_answered w wanted r acts inv asks can =
+    let h = inv.holds in
+    let v : Known = answered w r acts in
+    let left : main_left v ≡ asks.go r = left-after w wanted asks.go r asks.left in
+    let opened = open-yet w asks.not_ended in
+    main-holds w (w.answers ++ r ∷ []) false w.ending (w.acts ++ acts) w.refusal inv
+    (record {
+      asks = subst (Asks [] (submits w.past)) (sym left) (asks-on [] (submits w.past) wanted asks.go r can.is_answer can.untold (subst (Asks [] (submits w.past)) asks.left h.main.asks));
+      mains = h.main.mains;
+      called = rw (acts_of-append w.acts acts) (calls-append (acts_of w.acts) (acts_of acts) ∙ (let before = h.main.called in let none = can.no_calls in omega arith));
+      waits = rw (acts_of-append w.acts acts) (waits-append (acts_of w.acts) (acts_of acts) w.past h.main.waits can.waits);
+      ended = λ e g. absurd (let going = asks.going in cc);
+    })
+    (λ losses f e. record {
+      made = e.made;
+      count = e.count;
+      group = e.group;
+      goes_on = e.goes_on
+          ∙ ap (λ (a : Act Done). perform (main_answer (main_rule w losses)) a (main_at w e.made)) asks.left
+          ∙ ap (λ (x : Answer × Main). perform (main_answer (main_rule w losses)) (asks.go x.0) x.1) (can.answers losses e)
+          ∙ ap (λ (a : Act Done). perform (main_answer (main_rule w losses)) a (record { made = e.made; acts = w.acts ++ acts; printed = printed_in (w.acts ++ acts) })) (sym left);
+      placed = e.placed;
+      agrees = e.agrees;
+    })
+    (λ g. absurd (cc))
+
+shown_same : (acts more : List MainAct) → printed_in more ≡ [] → printed_in acts ≡ printed_in (acts ++ more)
+shown_same acts more none = sym (printed-append acts more ∙ ap (λ (l : List Value). printed_in acts ++ l) none ∙ append-nil (printed_in acts))
+
+pub keep-printed : (w : Known) (value : Value) → Inv w → MainAsks w (request.Print value) → Inv (printed w value)
+keep-printed w value inv asks = keep_answered w (request.Print value) answer.Go (Prints value ∷ []) inv asks (record {
+  is_answer = tt;
+  untold = refl;
+  no_calls = refl;
   waits = tt;
-  fits = λ k outcome h. absurd (cc);
-  goes_on = λ losses h. starts-with script losses;
-  legal = λ z h. record { settling = tt; launching = tt; attempts = tt; managers = tt };
-  ends = λ h. absurd (cc);
-}
+  answers = λ losses e. ap (λ (l : List Value). (answer.Go, record { made = e.made; acts = w.acts ++ Prints value ∷ []; printed = l })) (sym (printed-append w.acts (Prints value ∷ [])));
+})
 
--- ---- what is left of main
+pub keep-checkpointed : (w : Known) → Inv w → MainAsks w request.Checkpoint → Inv (checkpointed w)
+keep-checkpointed w inv asks = keep_answered w request.Checkpoint answer.Go (Checkpoints ∷ []) inv asks (record {
+  is_answer = tt;
+  untold = refl;
+  no_calls = refl;
+  waits = tt;
+  answers = λ losses e. ap (λ (l : List Value). (answer.Go, record { made = e.made; acts = w.acts ++ Checkpoints ∷ []; printed = l })) (shown_same w.acts (Checkpoints ∷ []) refl);
+})
 
--- main is what its next statements are
-left-is : (w : Known) (statements : List SmallStatement) → w.raised ≡ None → w.rest ≡ statements → main_left w ≡ small_rest w.script statements w.variables
-left-is w statements going next = rw (going, next) refl
+-- a request that waits for this value
+data IsWait (f : Value) : Request → Type 0 where
+  for_value : IsWait f (request.WaitValue f)
+  for_name : IsWait f (request.WaitName f)
 
-not-over : (w : Known) (statement : SmallStatement) (rest : List SmallStatement) → w.raised ≡ None → w.rest ≡ statement ∷ rest → is_main_over w ≡ false
-not-over w statement rest going next = rw (going, next) refl
+wait_is : (w : Known) (f : Value) (wanted : Request) → IsWait f wanted → (r : Rule) (m : Main) → main_answer r wanted m ≡ waits m (path_in (out-Value f))
+wait_is w f _ for_value r m = refl
+wait_is w f _ for_name r m = refl
 
-open-yet : (w : Known) → has_ended w ≡ false → has_end w.past ≡ false
-open-yet w h = (or_parts w.refused (has_end w.past) h).1
+-- what main waits for is a call of its own
+wait_child : (w : Known) (f : Value) (wanted : Request) → IsWait f wanted → Inv w → MainAsks w wanted → (p : Path) (qs : List Path) → path_in (out-Value f) ≡ p ∷ qs → IsChild [] (submits w.past) p
+wait_child w f _ for_value inv asks p qs at = let a = subst (Asks [] (submits w.past)) asks.left inv.holds.main.asks in asks-wait [] (submits w.past) (Ask (request.WaitValue f) asks.go) f p qs a a.told.0 at
+wait_child w f _ for_name inv asks p qs at = let a = subst (Asks [] (submits w.past)) asks.left inv.holds.main.asks in asks-wait [] (submits w.past) (Ask (request.WaitName f) asks.go) f p qs a a.told.0 at
 
--- ---- a call
+-- the task has its outcome in the evaluation when main comes to the wait
+waited_outcome : (w : Known) (losses : Losses) (e : FollowsEvaluation losses w) → Inv w → (p : Path) (outcome : Outcome) → IsChild [] (submits w.past) p → outcome_at (known w) p ≡ Some outcome → (outcome_at e.made.tasks p ≡ Some outcome) × IsAnswer (answer.Outcome outcome)
+waited_outcome w losses e inv p outcome child_is has =
+    let on = whole-on w losses e in
+    let count = e.count in
+    let lt = child_is.below in
+    let there = found-some e.made.tasks (child [] child_is.number) (e.group.has child_is.number (omega arith)) in
+    let at : found e.made.tasks p ≡ Some there.0 = ap (found e.made.tasks) child_is.is ∙ there.1 in
+    let whole_at : found (whole w.tree losses) p ≡ Some there.0 = ap (λ (ts : Tasks). found ts p) on.has_tasks ∙ found-front e.made.tasks on.tasks p there.0 at in
+    let so = known-whole w losses inv.holds.tracks e p outcome has in
+    let same : there.0.outcome ≡ outcome = (let f = outcome-found (whole w.tree losses) p there.0 whole_at in cc) in
+    (outcome-found e.made.tasks p there.0 at ∙ ap Some same, is-answer outcome (subst IsPlainOutcome same (e.group.ruled p there.0 at).plain))
 
--- the new life is pending, and no other is another one
-life-pushed : (lives : List Life) (k : ℕ) → k ≢ length lives → get_or (lives ++ pending ∷ []) k no_life ≡ get_or lives k no_life
-life-pushed [] zero ne = absurd (ne refl)
-life-pushed [] (suc k) ne = refl
-life-pushed (life ∷ lives) zero ne = refl
-life-pushed (life ∷ lives) (suc k) ne = life-pushed lives k (λ e. ne (ap suc e))
+keep_waited : (w : Known) (f : Value) (wanted : Request) (p : Path) (qs : List Path) (outcome : Outcome) → IsWait f wanted → Inv w → MainAsks w wanted → path_in (out-Value f) ≡ p ∷ qs → outcome_at (known w) p ≡ Some outcome → Inv (waited w p outcome)
+keep_waited w f wanted p qs outcome is inv asks at has =
+    let child_is = wait_child w f wanted is inv asks p qs at in
+    let now_e = inv.holds.right.evaluates (lost w.past) inv.holds.right.fits in
+    keep_answered w wanted (answer.Outcome outcome) (Waits p ∷ []) inv asks (record {
+      is_answer = (waited_outcome w (lost w.past) now_e inv p outcome child_is has).1;
+      untold = refl;
+      no_calls = refl;
+      waits = (known-settled w inv.holds.tracks (p ∷ []) (some-of (outcome_at (known w) p) outcome has, tt));
+      answers = λ losses e.
+          wait_is w f wanted is (main_rule w losses) (main_at w e.made)
+          ∙ ap (waits (main_at w e.made)) at
+          ∙ ap (λ (r : Option Outcome). (outcome_answer r, acted (main_at w e.made) (Waits p))) (waited_outcome w losses e inv p outcome child_is has).0
+          ∙ ap (λ (l : List Value). (answer.Outcome outcome, record { made = e.made; acts = w.acts ++ Waits p ∷ []; printed = l })) (shown_same w.acts (Waits p ∷ []) refl);
+    })
 
-life-cases : (lives : List Life) (k : ℕ) (P : ℕ → Life → Type 0) → P (length lives) pending → (k ≢ length lives → P k (get_or lives k no_life)) → P k (get_or (lives ++ pending ∷ []) k no_life)
-life-cases lives k P here other =
-    elim (cases_eq k (length lives)) [
-      | inl eq ↦ rw (eq, get_or_push lives pending no_life (length lives) refl) here
-      | inr ne ↦ rw (life-pushed lives k ne) (other ne)
-    ]
+pub keep-waited-value : (w : Known) (f : Value) (p : Path) (qs : List Path) (outcome : Outcome) → Inv w → MainAsks w (request.WaitValue f) → path_in (out-Value f) ≡ p ∷ qs → outcome_at (known w) p ≡ Some outcome → Inv (waited w p outcome)
+keep-waited-value w f p qs outcome inv asks at has = keep_waited w f (request.WaitValue f) p qs outcome for_value inv asks at has
 
--- it has no outcome
-outcome-pushed : (lives : List Life) (k : ℕ) → outcome_in (get_or (lives ++ pending ∷ []) k no_life) ≡ outcome_in (get_or lives k no_life)
-outcome-pushed [] zero = refl
-outcome-pushed [] (suc k) = refl
-outcome-pushed (life ∷ lives) zero = refl
-outcome-pushed (life ∷ lives) (suc k) = outcome-pushed lives k
+pub keep-waited-name : (w : Known) (f : Value) (p : Path) (qs : List Path) (outcome : Outcome) → Inv w → MainAsks w (request.WaitName f) → path_in (out-Value f) ≡ p ∷ qs → outcome_at (known w) p ≡ Some outcome → Inv (waited w p outcome)
+keep-waited-name w f p qs outcome inv asks at has = keep_waited w f (request.WaitName f) p qs outcome for_name inv asks at has
 
--- it is what the history says of a task that isn't there yet
-pending-life : (p : Path) (b : History) → IsLife no_retries p b no_life → IsLife no_retries p b pending
-pending-life p b h =
-    let before = h.opened refl in
+-- what is no future is answered at once
+keep_unwaited : (w : Known) (f : Value) (wanted : Request) → IsWait f wanted → Inv w → MainAsks w wanted → path_in (out-Value f) ≡ [] → Inv (answered w answer.Go [])
+keep_unwaited w f wanted is inv asks at = keep_answered w wanted answer.Go [] inv asks (record {
+  is_answer = tt;
+  untold = refl;
+  no_calls = refl;
+  waits = tt;
+  answers = λ losses e.
+      wait_is w f wanted is (main_rule w losses) (main_at w e.made)
+      ∙ ap (waits (main_at w e.made)) at
+      ∙ ap (λ (l : List MainAct). (answer.Go, record { made = e.made; acts = l; printed = printed_in l })) (sym (append-nil w.acts));
+})
+
+pub keep-unwaited-value : (w : Known) (f : Value) → Inv w → MainAsks w (request.WaitValue f) → path_in (out-Value f) ≡ [] → Inv (answered w answer.Go [])
+keep-unwaited-value w f inv asks at = keep_unwaited w f (request.WaitValue f) for_value inv asks at
+
+pub keep-unwaited-name : (w : Known) (f : Value) → Inv w → MainAsks w (request.WaitName f) → path_in (out-Value f) ≡ [] → Inv (answered w answer.Go [])
+keep-unwaited-name w f inv asks at = keep_unwaited w f (request.WaitName f) for_name inv asks at
+
+-- ---- main comes to a wait, ends, or is refused
+
+pub keep-arrived : (w : Known) → Inv w → Inv (arrived_at w)
+keep-arrived w inv =
+    let did = inv.holds.main in
+    main-holds w w.answers true w.ending w.acts w.refusal inv
+    (record { asks = did.asks; mains = did.mains; called = did.called; waits = did.waits; ended = did.ended })
+    (λ losses f e. record { made = e.made; count = e.count; group = e.group; goes_on = e.goes_on; placed = e.placed; agrees = e.agrees })
+    (λ g. let d = inv.holds.right.ends g in record { over = d.over; settled = d.settled })
+
+pub keep-refused : (w : Known) (r : Refusal) → Inv w → Inv (refused w r)
+keep-refused w r inv =
+    let did = inv.holds.main in
+    main-holds w w.answers w.arrived w.ending w.acts (Some r) inv
+    (record { asks = did.asks; mains = did.mains; called = did.called; waits = did.waits; ended = did.ended })
+    (λ losses f e. record { made = e.made; count = e.count; group = e.group; goes_on = e.goes_on; placed = e.placed; agrees = e.agrees })
+    (λ g. let d = inv.holds.right.ends g in record { over = d.over; settled = d.settled })
+
+pub keep-main-ended : (w : Known) (ending : Ending) → Inv w → CanEndMain w ending → Inv (main_ended w ending)
+keep-main-ended w ending inv can =
+    let did = inv.holds.main in
+    let opened = open-yet w can.not_ended in
+    main-holds w w.answers w.arrived (Some ending) w.acts w.refusal inv
+    (record { asks = did.asks; mains = did.mains; called = did.called; waits = did.waits; ended = λ e g. let same : ending ≡ e = cc in subst (λ (x : Ending). EndsSo x (main_left w)) same can.ends })
+    (λ losses f e. record { made = e.made; count = e.count; group = e.group; goes_on = e.goes_on; placed = e.placed; agrees = e.agrees })
+    (λ g. absurd (cc))
+
+-- ---- a call of main
+
+acts_pushed : (acts : List MainAct) (p : Path) → acts_of (acts ++ Calls p ∷ []) ≡ acts_of acts ++ act.Call ∷ []
+acts_pushed acts p = acts_of-append acts (Calls p ∷ [])
+
+-- no call has the path of main's next one
+main_fresh : (w : Known) → Tracks w → (k : ℕ) → k < length w.calls → path_at w k ≢ next_path w
+main_fresh w tw k lt e = by_kind (tw.family k lt)
+  where
+    by_kind : IsOf w k → ⊥
+    by_kind (of_main i less at) = let same = child-same [] i (submits w.past) (sym at ∙ e) in absurd (omega arith)
+    by_kind (of_join j i less ran at) = let callers = parent-same (path_at w j) [] i (submits w.past) (sym at ∙ e) in let short = ap length callers in let long = path-long w j (tw.family j less) in absurd (omega arith)
+
+-- main's state behind the call
+record IsCalled (w : Known) (c : Call) (losses : Losses) (e : FollowsEvaluation losses w) : Type 0 where
+  made : Made
+  count : made.calls ≡ suc (submits w.past)
+  group : IsGroup (apps_in w) losses [] made
+  task : HasTask made.tasks c
+  goes_on : (go : Answer → Act Done) → perform (main_answer (main_rule w losses)) (Ask (request.Call c.app c.arguments c.names) go) (main_at w e.made)
+      ≡ perform (main_answer (main_rule w losses)) (go (answer.Called (future_of c))) (record { made = made; acts = w.acts ++ Calls c.path ∷ []; printed = printed_in (w.acts ++ Calls c.path ∷ []) })
+
+is_called : (w : Known) (app : ℕ) (arguments : List Value) (names : List Text) → Inv w → MainAsks w (request.Call app arguments names) → (losses : Losses) (e : FollowsEvaluation losses w) → IsCalled w (call_of w app arguments names) losses e
+is_called w app arguments names inv asks losses e =
+    let r : Rule = main_rule w losses in
+    let asked = subst (Asks [] (submits w.past)) asks.left inv.holds.main.asks in
+    let told = subst (λ (n : ℕ). Each (IsChild [] n) (inputs arguments)) (sym e.count) (asks-inputs [] (submits w.past) app arguments names asks.go asked) in
+    let plain = (children-known (apps_in w) losses [] e.made e.group (inputs arguments) told).1 in
+    let more = one-more (apps_in w) losses [] e.made r app arguments names e.group told (rule-rules w.tree inv.holds.told losses main_room (record { path = child [] e.made.calls; app = app; arguments = arguments; names = names }) e.made.tasks refl plain) in
+    let made : Made = (makes r [] app arguments names e.made).1 in
     record {
-      reached = tt;
-      first = λ e. refl;
-      opened = λ e. record { attempts = before.attempts; costs = before.costs; stage = before.stage; last = before.last; unsettled = before.unsettled };
-      closed = λ e. absurd (cc);
+      made = made;
+      count = ap suc e.count;
+      group = more.group;
+      task = subst (λ (n : ℕ). HasTask made.tasks (record { path = child [] n; app = app; arguments = arguments; names = names })) e.count more.task;
+      goes_on = λ go.
+          ap (λ (n : ℕ). perform (main_answer r) (go (answer.Called (v.Future (child [] n) (length names)))) (record { made = made; acts = w.acts ++ Calls (child [] n) ∷ []; printed = printed_in w.acts })) e.count
+          ∙ ap (λ (l : List Value). perform (main_answer r) (go (answer.Called (v.Future (next_path w) (length names)))) (record { made = made; acts = w.acts ++ Calls (next_path w) ∷ []; printed = l })) (shown_same w.acts (Calls (next_path w) ∷ []) refl);
     }
 
-acts-pushed : (acts : List MainAct) (p : Path) → acts_of (acts ++ Calls p ∷ []) ≡ acts_of acts ++ act.Call ∷ []
-acts-pushed acts p = acts_of-append acts (Calls p ∷ [])
+-- one more submission behind those of a join
+record WasDue (w : Known) (p : Path) (m : ℕ) : Type 0 where
+  before : ℕ
+  at : due w.past ≡ due_of p before
+  count : m ≡ suc before
 
-length-pushed : {A : Type 0} → (xs : List A) (x : A) → length (xs ++ x ∷ []) ≡ length xs + 1
-length-pushed xs x = length-append xs (x ∷ [])
+was_due : (w : Known) (p : Path) (m : ℕ) → one_more (due w.past) ≡ due_of p m → WasDue w p m
+was_due w p m e = by_due (due w.past) refl e
+  where
+    by_due : (d : Due) → due w.past ≡ d → one_more d ≡ due_of p m → WasDue w p m
+    by_due None is g = absurd (cc)
+    by_due (Some d) is g =
+        let path : d.0 ≡ p = due-path d.0 p (suc d.1) m g in
+        record { before = d.1; at = is ∙ ap (λ (q : Path). due_of q d.1) path; count = sym (due-count d.0 p (suc d.1) m g) }
 
--- a settled task fits losses as before, where its call and the settled tasks are the same
-fits-same : (losses : Losses) (w v : Known) (k : ℕ) (outcome : Outcome) → v.script ≡ w.script → call_at v k ≡ call_at w k → known v ≡ known w → FitsAt losses w k outcome → FitsAt losses v k outcome
-fits-same losses w v k outcome script call settled h = record {
-  inputs = rw (settled, call) h.inputs;
-  by_rule = rw (script, settled, call) h.by_rule;
-}
-
-submitted-grows : (w : Known) (variable : Text) (c : Call) (statement : SmallStatement) (rest : List SmallStatement) → Inv w → w.raised ≡ None → w.rest ≡ statement ∷ rest → Grows w (submitted w variable c rest)
-submitted-grows w variable c statement rest inv going next = record {
-  script = refl;
-  outcome = λ k outcome h. outcome-pushed w.lives k ∙ h;
-  calls = let long = length-pushed w.calls c in omega arith;
-  call = λ k h. get_or_append_left w.calls (c ∷ []) no_call k h;
-  waits = λ k h. let called = inv.called in rw (acts-pushed w.acts (path_of (length w.calls))) (waits_before-append k (acts_of w.acts) (act.Call ∷ []) (omega arith));
-  over = λ h. let still = not-over w statement rest going next in absurd (cc);
-}
-
-submitted-if : (t : Bool) (b : Bool) → b ≡ true → (if t then true else b) ≡ true
-submitted-if true b h = refl
-submitted-if false b h = h
-
--- the call is that of a small script
-call-small : (script : SmallScript) (variables : List Text) (variable app : Text) (arguments : List Operand) (rest : List SmallStatement) (n : ℕ) → length variables ≡ n → is_sound_main script.apps variables (small.Call variable app arguments ∷ rest) ≡ true
-    → IsSmallCall script.apps n (call_of script variables app arguments)
-call-small script variables variable app arguments rest n same sound =
-    let facts = sound-call script.apps variables variable app arguments rest sound in
+main_due_on : (w : Known) (c : Call) (rs : List Answer) (acts : List MainAct) → IsConsistent w → c.path ≡ next_path w → (p : Path) (m : ℕ) → one_more (due w.past) ≡ due_of p m → IsDue (grown w c rs false acts) p m
+main_due_on w c rs acts h path p m e =
+    let was = was_due w p m e in
+    let d = h.joins.is_due p was.before was.at in
+    let tw = h.tracks in
+    let longer = length-pushed w.calls c in
+    let count = was.count in
+    let ran_on : (j : ℕ) → IsSome (life_at w j).ran → IsSome (life_at (grown w c rs false acts) j).ran = λ j ran. pushed-cases w.lives j (λ n life. IsSome (life_at w n).ran → IsSome life.ran) (λ g. absurd (let lt = ran-within w tw.lives (length w.lives) g in let l = tw.lives in omega arith)) (λ ne g. g) ran in
     record {
-      arguments = map (argument_in variables) arguments;
-      given = refl;
-      within = arguments-within variables n same arguments facts.given;
-      enough = rw (length-operands variables arguments) facts.enough;
-      no_names = refl;
+      place = d.place;
+      within = let lt = d.within in omega arith;
+      is = d.is ∙ ap (λ (b : Call). b.path) (sym (old-call w c rs false acts d.place d.within));
+      ran = ran_on d.place d.ran;
+      fresh = λ k i lk at. by-place w c rs false acts (λ n. path_at (grown w c rs false acts) n ≡ child p i → i < m)
+          (λ n less g. (let lt = d.fresh n i less (ap (λ (b : Call). b.path) (sym (old-call w c rs false acts n less)) ∙ g) in omega arith))
+          (λ g. absurd (let callers : [] ≡ p = parent-same [] p (submits w.past) i (sym path ∙ sym (ap (λ (b : Call). b.path) (new-call w c rs false acts)) ∙ g) in let long = path-long w d.place (tw.family d.place d.within) in let empty : p ≡ path_at w d.place = d.is in let short = ap length (callers ∙ empty) in omega arith))
+          k lk at;
     }
 
--- the evaluation goes on behind the call
-goes-call : (w : Known) (variable app : Text) (arguments : List Operand) (rest : List SmallStatement) (losses : Losses) → w.raised ≡ None → w.rest ≡ small.Call variable app arguments ∷ rest → length w.variables ≡ length w.calls
-    → is_sound_main w.script.apps w.variables (small.Call variable app arguments ∷ rest) ≡ true
-    → perform (main_answer (rule_in losses w)) (main_left w) (main_at losses w)
-    ≡ perform (main_answer (rule_in losses w)) (main_left (submitted w variable (call_of w.script w.variables app arguments) rest)) (main_at losses (submitted w variable (call_of w.script w.variables app arguments) rest))
-goes-call w variable app arguments rest losses going next named sound =
-    let asks = asks-call w.script w.variables variable app arguments rest sound in
-    let c : Call = call_of w.script w.variables app arguments in
-    let used : Rule = rule_in losses w in
-    let m : Main = main_at losses w in
-    let made : Made = (makes used [] c.app c.arguments [] m.made).1 in
-    let acts : ℕ → List MainAct = λ k. w.acts ++ Calls (path_of k) ∷ [] in
-    let count : m.made.calls ≡ length w.calls = filled-count used w.calls no_calls ∙ zero-add (length w.calls) in
-    let after : asks.go (answer.Called (future_at (length w.calls))) ≡ main_left (submitted w variable c rest)
-    = ap (λ k. asks.go (answer.Called (future_at k))) (sym named) ∙ asks.goes ∙ rw going refl in
-    let shown : printed_in w.acts ≡ printed_in (acts (length w.calls)) = sym (printed-append w.acts (Calls (path_of (length w.calls)) ∷ []) ∙ append-nil (printed_in w.acts)) in
-    ap (λ (left : flow.Act Done). perform (main_answer used) left m) (left-is w (small.Call variable app arguments ∷ rest) going next ∙ asks.is)
-    ∙ ap (λ k. perform (main_answer used) (asks.go (answer.Called (future_at k))) (record { made = made; acts = acts k; printed = printed_in w.acts })) count
-    ∙ ap (λ (left : flow.Act Done). perform (main_answer used) left (record { made = made; acts = acts (length w.calls); printed = printed_in w.acts })) after
-    ∙ ap (λ (given : Made). perform (main_answer used) (main_left (submitted w variable c rest)) (record { made = given; acts = acts (length w.calls); printed = printed_in w.acts })) (sym (filled-push used w.calls c no_calls))
-    ∙ ap (λ (printed : List Value). perform (main_answer used) (main_left (submitted w variable c rest)) (record { made = filled used (w.calls ++ c ∷ []) no_calls; acts = acts (length w.calls); printed = printed })) shown
+main_quiet : (w : Known) (c : Call) (rs : List Answer) (acts : List MainAct) → Inv w → c.path ≡ next_path w → IsQuiet (grown w c rs false acts)
+main_quiet w c rs acts inv path k m lt at =
+    let v : Known = grown w c rs false acts in
+    let h = inv.holds in
+    let was = was_due w (path_at v k) m at in
+    let count = was.count in
+    by-place w c rs false acts (λ n. due w.past ≡ due_of (path_at v n) was.before → length (calls_below (apps_in v) (known v) (call_at v n)) ≤ m)
+    (λ n less g.
+    let call : call_at v n ≡ call_at w n = old-call w c rs false acts n less in
+    let few = inv.quiet n was.before less (g ∙ ap (λ (b : Call). due_of b.path was.before) call) in
+    let all : known v ≡ known w = known-push w.calls w.lives c h.tracks.lives in
+    let below : calls_below (apps_in v) (known v) (call_at v n) ≡ calls_below (apps_in w) (known w) (call_at w n) = ap (λ (b : Call). calls_below (apps_in w) (known v) b) call ∙ ap (λ (ts : Tasks). calls_below (apps_in w) ts (call_at w n)) all in
+    omega (arith, ap length below, few))
+    (λ g.
+    let d = h.joins.is_due (path_at v (length w.calls)) was.before g in
+    absurd (main_fresh w h.tracks d.place d.within (sym d.is ∙ ap (λ (b : Call). b.path) (new-call w c rs false acts) ∙ path)))
+    k lt was.at
 
-pub keep-submitted : (w : Known) (variable app : Text) (arguments : List Operand) (rest : List SmallStatement) → Inv w → CanSubmit w variable app arguments rest → Inv (submitted w variable (call_of w.script w.variables app arguments) rest)
-keep-submitted w variable app arguments rest inv can =
+pub keep-called : (w : Known) (app : ℕ) (arguments : List Value) (names : List Text) → Inv w → MainAsks w (request.Call app arguments names) → Inv (called w (call_of w app arguments names))
+keep-called w app arguments names inv asks =
+    let h = inv.holds in
+    let tw = h.tracks in
     let n : ℕ = length w.calls in
-    let c : Call = call_of w.script w.variables app arguments in
-    let v : Known = submitted w variable c rest in
-    let e : Entry = entry.Submit (path_of n) (name_in (slice_get (apps_in w) c.app)) in
-    let sound : is_sound_main w.script.apps w.variables (small.Call variable app arguments ∷ rest) ≡ true = let mains = inv.mains in rw can.next at mains in
-    let facts = sound-call w.script.apps w.variables variable app arguments rest sound in
-    let grows = submitted-grows w variable c (small.Call variable app arguments) rest inv can.going can.next in
-    let open_yet = open-yet w can.not_ended in
-    let long : length v.calls ≡ n + 1 = length-pushed w.calls c in
-    let lives : length v.lives ≡ length v.calls = let pushed = length-pushed w.lives pending in let before = inv.lives in omega arith in
-    let all : known v ≡ known w = known-push 0 w.calls w.lives c inv.lives in
-    let new : call_at v n ≡ c = get_or_push w.calls c no_call n refl in
-    let past_end : get_or w.lives n no_life ≡ no_life = let before = inv.lives in get_or_past w.lives n no_life (omega arith) in
+    let c : Call = call_of w app arguments names in
+    let rs : List Answer = w.answers ++ answer.Called (future_of c) ∷ [] in
+    let acts : List MainAct = w.acts ++ Calls c.path ∷ [] in
+    let v : Known = grown w c rs false acts in
+    let opened = open-yet w asks.not_ended in
+    let here : call_at v n ≡ c = new-call w c rs false acts in
+    let path_here : path_at v n ≡ c.path = ap (λ (b : Call). b.path) here in
+    let old : (k : ℕ) → k < n → call_at v k ≡ call_at w k = old-call w c rs false acts in
+    let longer = length-pushed w.calls c in
+    let more : submits v.past ≡ submits w.past + 1 = refl in
+    let more_suc : submits v.past ≡ suc (submits w.past) = omega arith in
+    let kind : IsOf v n = of_main (submits w.past) (omega arith) path_here in
+    let tv : Tracks v = submit-tracks w c rs false acts h (main_fresh w tw) (omega arith) kind in
+    let grows = submit-grows w c rs false acts in
+    let left : main_left v ≡ asks.go (answer.Called (future_of c)) = left-after w (request.Call app arguments names) asks.go (answer.Called (future_of c)) asks.left in
+    let asked = subst (Asks [] (submits w.past)) asks.left h.main.asks in
+    let back : (losses : Losses) → FitsLosses losses v → FitsLosses losses w = submit-back w c rs false acts h tv in
+    let evaluates : (losses : Losses) → FitsLosses losses v → FollowsEvaluation losses v = λ losses f.
+    let e = h.right.evaluates losses (back losses f) in
+    let i = is_called w app arguments names inv asks losses e in
+    let goes : whole_ran w.tree losses ≡ perform (main_answer (main_rule v losses)) (main_left v) (record { made = i.made; acts = acts; printed = printed_in acts })
+    = e.goes_on
+    ∙ ap (λ (a : Act Done). perform (main_answer (main_rule w losses)) a (main_at w e.made)) asks.left
+    ∙ i.goes_on asks.go
+    ∙ ap (λ (a : Act Done). perform (main_answer (main_rule w losses)) a (record { made = i.made; acts = acts; printed = printed_in acts })) (sym left) in
+    let on = performs-on (main_rule v losses) (main_left v) (record { made = i.made; acts = acts; printed = printed_in acts }) in
+    let tasks : whole w.tree losses ≡ i.made.tasks ++ on.tasks = ap (λ (x : Result Done Exception × Main). x.1.made.tasks) goes ∙ on.has_tasks in
     record {
-      sound = inv.sound;
-      few = inv.few;
-      bound = let bound = inv.bound in let left : length w.rest ≡ suc (length rest) = ap length can.next in omega arith;
-      mains = facts.rest;
-      variables = let pushed = length-pushed w.variables variable in let before = inv.variables in omega arith;
-      lives = lives;
-      count = let before = inv.count in omega arith;
-      there = λ k h.
-          elim (cases_eq k n) [
-            | inl eq ↦ rw (eq, path-same n) refl
-            | inr ne ↦ submitted-if (bytes_eq (path_of k) (path_of n)) (is_submitted (path_of k) w.past) (inv.there k (omega arith))
-          ];
-      tracks = λ k. life-cases w.lives k (λ j life. IsLife no_retries (path_of j) (e ∷ w.past) life)
-          (rw inv.lives (submit-life no_retries (path_of n) _ (path_of n) w.past pending (pending-life (path_of n) w.past (subst (λ (life : Life). IsLife no_retries (path_of n) w.past life) past_end (inv.tracks n)))))
-          (λ ne. submit-life no_retries (path_of n) _ (path_of k) w.past (life_at w k) (inv.tracks k));
-      begun = λ k h. life-cases w.lives k (λ j life. life.status ≡ status.Unsched → ⊥) (λ s. absurd (cc)) (λ ne. let before = inv.lives in inv.begun k (omega arith));
-      small = λ k h.
-          elim (cases_eq k n) [
-            | inl eq ↦ rw (eq, new) (call-small w.script w.variables variable app arguments rest n inv.variables sound)
-            | inr ne ↦ let within : k < n = omega arith in rw (grows.call k within) (inv.small k within)
-          ];
-      ints = λ k value files h. inv.ints k value files (sym (outcome-pushed w.lives k) ∙ h);
-      ready = λ k. life-cases w.lives k (λ j life. HasRun life.status → AllValues (known v) (inputs_at v j)) (λ h. absurd h)
-          (λ ne h. rw (all, grows.call k (run-within w k inv.lives h)) (inv.ready k h));
-      ended = λ k outcome. life-cases w.lives k (λ j life. life.status ≡ status.RunningEnded → life.end ≡ Some outcome → outcome ≡ outcome_of (end_at v j)) (λ h. absurd (cc))
-          (λ ne h has. let run : HasRun (status_at w k) = subst (λ (s : Status). HasRun s) (sym h) tt in rw (all, grows.call k (run-within w k inv.lives run)) (inv.ended k outcome h has));
-      called = rw (acts-pushed w.acts (path_of n), calls-append (acts_of w.acts) (act.Call ∷ [])) (let before = inv.called in omega arith);
-      waits = rw (acts-pushed w.acts (path_of n)) (waits-stay e (acts_of w.acts ++ act.Call ∷ []) w.past (waits-append (acts_of w.acts) (act.Call ∷ []) w.past inv.waits tt));
-      fits = λ k outcome h.
-          let before : settled_outcome w k ≡ Some outcome = sym (outcome-pushed w.lives k) ∙ h in
-          fits-same (lost w.past) w v k outcome refl (grows.call k (settled-within w k outcome inv.lives before)) all (inv.fits k outcome before);
-      goes_on = λ losses h. inv.goes_on losses (fits-back w v inv lives grows losses h) ∙ goes-call w variable app arguments rest losses can.going can.next inv.variables sound;
-      legal = λ z h.
-          let before = inv.legal z (knows-back w v inv lives grows z h) in
-          let here = h.call n (omega arith) in
-          record {
-            settling = (
-              record {
-                open_yet = open_yet;
-                stands = record {
-                  next = ap path_of (sym inv.count);
-                  within = let count = h.count in let same = inv.count in omega arith;
-                  same_app = rw (here.is, here.app, new) refl;
-                  waited = rw (inv.count, h.waits n (omega arith), acts-pushed w.acts (path_of n)) (subst (λ k. AllSettled (waits_before k (acts_of w.acts ++ act.Call ∷ [])) w.past) inv.called (waits_before-settled (acts_of w.acts) w.past inv.waits));
-                };
-              },
-              before.settling,
-            );
-            launching = (tt, before.launching);
-            attempts = (tt, before.attempts);
-            managers = (tt, before.managers);
-          };
-      ends = λ h. absurd (cc);
-    }
-
--- ---- acts that leave the tasks and the history
-
--- what such an act has to show
-record LeavesTasks (w v : Known) : Type 0 where
-  grows : Grows w v
-  bound : length w.calls + length v.rest ≤ length w.script.main
-  mains : is_sound_main w.script.apps w.variables v.rest ≡ true
-  called : calls_in (acts_of v.acts) ≡ length w.calls
-  waits : WaitsSettled (acts_of v.acts) w.past
-  goes_on : (losses : Losses) → Fits losses w → perform (main_answer (rule_in losses w)) (main_left w) (main_at losses w) ≡ perform (main_answer (rule_in losses w)) (main_left v) (main_at losses v)
-  ends : has_end w.past ≡ true → IsDone v
-
-abbrev leaving : Known → List SmallStatement → Option Exception → List MainAct → Bool → Known
-leaving w rest raised acts flag = record w { rest = rest; raised = raised; acts = acts; refused = flag }
-
-keep-leaving : (w : Known) (rest : List SmallStatement) (raised : Option Exception) (acts : List MainAct) (flag : Bool) → Inv w → LeavesTasks w (leaving w rest raised acts flag) → Inv (leaving w rest raised acts flag)
-keep-leaving w rest raised acts flag inv step =
-    let v : Known = leaving w rest raised acts flag in
-    record {
-      sound = inv.sound;
-      few = inv.few;
-      bound = step.bound;
-      mains = step.mains;
-      variables = inv.variables;
-      lives = inv.lives;
-      count = inv.count;
-      there = inv.there;
-      tracks = inv.tracks;
-      begun = inv.begun;
-      small = inv.small;
-      ints = inv.ints;
-      ready = inv.ready;
-      ended = inv.ended;
-      called = step.called;
-      waits = step.waits;
-      fits = λ j outcome h. fits-same (lost w.past) w v j outcome refl refl refl (inv.fits j outcome h);
-      goes_on = λ losses h. let before = fits-back w v inv inv.lives step.grows losses h in inv.goes_on losses before ∙ step.goes_on losses before;
-      legal = λ z h. inv.legal z (knows-back w v inv inv.lives step.grows z h);
-      ends = step.ends;
-    }
-
--- ---- a result
-
--- a wait and what follows it make no calls
-acts-waited : (acts : List MainAct) (p : Path) → acts_of (acts ++ Waits p ∷ []) ≡ acts_of acts ++ act.Wait p ∷ []
-acts-waited acts p = acts_of-append acts (Waits p ∷ [])
-
-acts-printed : (acts : List MainAct) (p : Path) (value : Value) → acts_of ((acts ++ Waits p ∷ []) ++ Prints value ∷ []) ≡ acts_of acts ++ act.Wait p ∷ []
-acts-printed acts p value = acts_of-append (acts ++ Waits p ∷ []) (Prints value ∷ []) ∙ append-nil _ ∙ acts-waited acts p
-
-shown-waited : (acts : List MainAct) (p : Path) → printed_in (acts ++ Waits p ∷ []) ≡ printed_in acts
-shown-waited acts p = printed-append acts (Waits p ∷ []) ∙ append-nil (printed_in acts)
-
-shown-printed : (acts : List MainAct) (p : Path) (value : Value) → printed_in ((acts ++ Waits p ∷ []) ++ Prints value ∷ []) ≡ printed_in acts ++ value ∷ []
-shown-printed acts p value = printed-append (acts ++ Waits p ∷ []) (Prints value ∷ []) ∙ ap (λ (values : List Value). values ++ value ∷ []) (shown-waited acts p)
-
-called-waited : (acts : List MainEvent) (p : Path) → calls_in (acts ++ act.Wait p ∷ []) ≡ calls_in acts
-called-waited acts p = let both = calls-append acts (act.Wait p ∷ []) in omega arith
-
--- a task with an outcome has settled
-settled-life : (b : History) (p : Path) (life : Life) (outcome : Outcome) → IsLife no_retries p b life → outcome_in life ≡ Some outcome → IsSome (settled p b)
-settled-life b p life outcome h has = by_test (is_settled life.status) refl
-  where
-    by_test : (t : Bool) → is_settled life.status ≡ t → IsSome (settled p b)
-    by_test true e = rw ((h.closed e).settled) refl
-    by_test false e = absurd (let none = rw e at has in cc)
-
--- what is waited for has settled
-waited-settled : (w : Known) (k : ℕ) (outcome : Outcome) → Inv w → settled_outcome w k ≡ Some outcome → WaitsSettled (acts_of w.acts ++ act.Wait (path_of k) ∷ []) w.past
-waited-settled w k outcome inv has = waits-append (acts_of w.acts) (act.Wait (path_of k) ∷ []) w.past inv.waits (settled-life w.past (path_of k) (life_at w k) outcome (inv.tracks k) has, tt)
-
--- the evaluation goes on behind the wait
-goes-wait : (w : Known) (variable : Text) (outcome : Outcome) (losses : Losses) (inv : Inv w) → Fits losses w → settled_outcome w (place_of w.variables variable) ≡ Some outcome
-    → (go : Answer → flow.Act Done) → main_left w ≡ flow.Ask (request.WaitValue (future_at (place_of w.variables variable))) go
-    → perform (main_answer (rule_in losses w)) (main_left w) (main_at losses w)
-    ≡ perform (main_answer (rule_in losses w)) (go (answer.Outcome outcome)) (acted (main_at losses w) (Waits (path_of (place_of w.variables variable))))
-goes-wait w variable outcome losses inv fits has go is =
-    let k : ℕ = place_of w.variables variable in
-    let used : Rule = rule_in losses w in
-    let m : Main = main_at losses w in
-    let out_is : out-Value (future_at k) ≡ Value-F.Future (path_of k) 0 = ap out-Value (sym (v.rolls-Future _ _)) ∙ out-roll-Value _ in
-    let told : Answer × Main → Result Done Exception × Main = λ r. perform (main_answer used) (go r.0) r.1 in
-    ap (λ (left : flow.Act Done). perform (main_answer used) left m) is
-    ∙ ap (λ (layer : Value-F Value). told (waits m (path_in layer))) out_is
-    ∙ ap (λ (found : Option Outcome). told (outcome_answer found, acted m (Waits (path_of k)))) (fits-filled w inv losses fits k outcome has)
-
-pub keep-printed : (w : Known) (variable : Text) (rest : List SmallStatement) (value : Value) (files : List FileOut) → Inv w → CanPrint w variable rest value files → Inv (printed w (place_of w.variables variable) value rest)
-keep-printed w variable rest value files inv can =
-    let k : ℕ = place_of w.variables variable in
-    let p : Path = path_of k in
-    let v : Known = printed w k value rest in
-    let sound : is_sound_main w.script.apps w.variables (small.Print variable ∷ rest) ≡ true = let mains = inv.mains in rw can.next at mains in
-    let facts = sound-print w.script.apps w.variables variable rest sound in
-    let acts = acts-printed w.acts p value in
-    let grows : Grows w v = record {
-      script = refl;
-      outcome = λ j outcome h. h;
-      calls = omega arith;
-      call = λ j h. refl;
-      waits = λ j h. let called = inv.called in rw acts (waits_before-append j (acts_of w.acts) (act.Wait p ∷ []) (omega arith));
-      over = λ h. let still = not-over w (small.Print variable) rest can.going can.next in absurd (cc);
+      made = i.made;
+      count = i.count ∙ sym more_suc;
+      group = i.group;
+      goes_on = goes;
+      placed = submit-placed w c rs false acts losses e.placed (subst (λ (ts : Tasks). HasTask ts c) (sym tasks) (keeps-task i.made.tasks (i.made.tasks ++ on.tasks) (keeps-front i.made.tasks on.tasks) c i.task));
+      agrees = submit-agrees w c rs false acts h losses e.agrees;
     } in
-    let asks = asks-result w.script w.variables variable rest sound in
-    let prints = asks.prints value files in
-    let after : prints.go answer.Go ≡ main_left v = prints.goes ∙ rw can.going refl in
-    let left = left-is w (small.Print variable ∷ rest) can.going can.next in
-    let open_yet = open-yet w can.not_ended in
-    keep-leaving w rest w.raised v.acts w.refused inv (record {
-      grows = grows;
-      bound = let bound = inv.bound in let left : length w.rest ≡ suc (length rest) = ap length can.next in omega arith;
-      mains = facts.rest;
-      called = rw acts (called-waited (acts_of w.acts) p ∙ inv.called);
-      waits = rw acts (waited-settled w k (o.Value value files) inv can.has);
-      goes_on = λ losses before.
-          let used : Rule = rule_in losses w in
-          goes-wait w variable (o.Value value files) losses inv before can.has asks.go (left ∙ asks.is)
-          ∙ ap (λ (further : flow.Act Done). perform (main_answer used) further (acted (main_at losses w) (Waits p))) prints.is
-          ∙ ap (λ (further : flow.Act Done). perform (main_answer used) further (record { made = (main_at losses w).made; acts = v.acts; printed = printed_in w.acts ++ value ∷ [] })) after
-          ∙ ap (λ (values : List Value). perform (main_answer used) (main_left v) (record { made = (main_at losses w).made; acts = v.acts; printed = values })) (sym (shown-printed w.acts p value));
-      ends = λ h. absurd (cc);
-    })
-
-pub keep-raised : (w : Known) (variable : Text) (rest : List SmallStatement) (exception : Exception) → Inv w → CanRaise w variable rest exception → Inv (raised_by w (place_of w.variables variable) exception)
-keep-raised w variable rest exception inv can =
-    let k : ℕ = place_of w.variables variable in
-    let p : Path = path_of k in
-    let v : Known = raised_by w k exception in
-    let sound : is_sound_main w.script.apps w.variables (small.Print variable ∷ rest) ≡ true = let mains = inv.mains in rw can.next at mains in
-    let acts = acts-waited w.acts p in
-    let grows : Grows w v = record {
-      script = refl;
-      outcome = λ j outcome h. h;
-      calls = omega arith;
-      call = λ j h. refl;
-      waits = λ j h. let called = inv.called in rw acts (waits_before-append j (acts_of w.acts) (act.Wait p ∷ []) (omega arith));
-      over = λ h. let still = not-over w (small.Print variable) rest can.going can.next in absurd (cc);
-    } in
-    let asks = asks-result w.script w.variables variable rest sound in
-    let left = left-is w (small.Print variable ∷ rest) can.going can.next in
-    let open_yet = open-yet w can.not_ended in
-    keep-leaving w w.rest (Some exception) v.acts w.refused inv (record {
-      grows = grows;
-      bound = inv.bound;
-      mains = inv.mains;
-      called = rw acts (called-waited (acts_of w.acts) p ∙ inv.called);
-      waits = rw acts (waited-settled w k (o.Failed exception) inv can.has);
-      goes_on = λ losses before.
-          let used : Rule = rule_in losses w in
-          goes-wait w variable (o.Failed exception) losses inv before can.has asks.go (left ∙ asks.is)
-          ∙ ap (λ (further : flow.Act Done). perform (main_answer used) further (acted (main_at losses w) (Waits p))) (asks.throws exception)
-          ∙ ap (λ (values : List Value). perform (main_answer used) (main_left v) (record { made = (main_at losses w).made; acts = v.acts; printed = values })) (sym (shown-waited w.acts p));
-      ends = λ h. absurd (cc);
-    })
-
--- ---- the end
-
-some-settled : (b : History) (p : Path) (life : Life) → IsLife no_retries p b life → IsSome (outcome_in life) → IsSome (settled p b)
-some-settled b p life h some = by_outcome (outcome_in life) refl
-  where
-    by_outcome : (r : Option Outcome) → outcome_in life ≡ r → IsSome (settled p b)
-    by_outcome (Some outcome) e = settled-life b p life outcome h e
-    by_outcome None e = absurd (let none = rw e at some in cc)
-
-over-grows : (w : Known) → Grows w (over w)
-over-grows w = record { script = refl; outcome = λ k outcome h. h; calls = omega arith; call = λ k h. refl; waits = λ k h. refl; over = λ h. (h, refl) }
-
-pub keep-over : (w : Known) → Inv w → CanEnd w → Inv (over w)
-keep-over w inv can =
-    let grows = over-grows w in
     record {
-      sound = inv.sound;
-      few = inv.few;
-      bound = inv.bound;
-      mains = inv.mains;
-      variables = inv.variables;
-      lives = inv.lives;
-      count = inv.count;
-      there = inv.there;
-      tracks = λ k. end-life no_retries (path_of k) w.past (life_at w k) (inv.tracks k);
-      begun = inv.begun;
-      small = inv.small;
-      ints = inv.ints;
-      ready = inv.ready;
-      ended = inv.ended;
-      called = inv.called;
-      waits = waits-stay entry.End (acts_of w.acts) w.past inv.waits;
-      fits = λ k outcome h. fits-same (lost w.past) w (over w) k outcome refl refl refl (inv.fits k outcome h);
-      goes_on = λ losses h. inv.goes_on losses (fits-back w (over w) inv inv.lives grows losses h);
-      legal = λ z h.
-          let known_back = knows-back w (over w) inv inv.lives grows z h in
-          let before = inv.legal z known_back in
-          let all = known_back.over can.done.over in
-          record {
-            settling = (
+      holds = record {
+        told = h.told;
+        tracks = tv;
+        runs = submit-runs w c rs false acts h tv;
+        joins = submit-joins w c rs false acts h tv
+            (λ k result ran. joined-on w v inv tv grows k result (ran-within w tw.lives k (some-of (life_at w k).ran result ran)) (h.joins.ran k result ran))
+            (λ p m at. main_due_on w c rs acts h refl p m at);
+        main = record {
+          asks = subst (Asks [] (submits v.past)) (sym left) (subst (λ (m : ℕ). Asks [] m (asks.go (answer.Called (future_of c)))) (sym more_suc) (asks-call [] (submits w.past) app arguments names asks.go (length names) asked));
+          mains = λ i lt.
+              elim (cases_lt i (submits w.past)) [
+                | inl less ↦ let was = h.main.mains i less in (was.0, let small = was.1 in omega arith, ap (λ (b : Call). b.path) (old was.0 was.1) ∙ was.2)
+                | inr past ↦ let same : submits w.past ≡ i = omega arith in (n, omega arith, path_here ∙ ap (child []) same)
+              ];
+          called = rw (acts_pushed w.acts c.path, calls-append (acts_of w.acts) (act.Call ∷ [])) (let before = h.main.called in omega arith);
+          waits = rw (acts_pushed w.acts c.path) (waits-stay (submit_of w c) (acts_of w.acts ++ act.Call ∷ []) w.past (waits-append (acts_of w.acts) (act.Call ∷ []) w.past h.main.waits tt));
+          ended = λ e g. absurd (let going = asks.going in cc);
+        };
+        right = record {
+          fits = submit-fits w c rs false acts h tv;
+          evaluates = evaluates;
+          legal = λ losses f.
+              let before = h.right.evaluates losses (back losses f) in
+              let e = evaluates losses f in
+              let b = h.right.legal losses (back losses f) in
+              let new = knows-call v losses tv e n (omega arith) in
+              let on = whole-on v losses e in
+              let table_acts : (table w.tree losses).acts ≡ (acts_of w.acts ++ act.Call ∷ []) ++ acts_of on.acts = acts-are w.tree losses ∙ ap acts_of on.has_acts ∙ acts_of-append acts on.acts ∙ ap (λ (l : List MainEvent). l ++ acts_of on.acts) (acts_pushed w.acts c.path) in
+              let counted : calls_in (acts_of w.acts ++ act.Call ∷ []) ≡ submits w.past + 1 = calls-append (acts_of w.acts) (act.Call ∷ []) ∙ (let did = h.main.called in omega arith) in
               record {
-                open_yet = open-yet w can.not_ended;
-                stands = record {
-                  submitted = λ p there. let below = all.below p there in rw below.is (inv.there below.number below.below);
-                  settled = λ p there. let below = all.below p there in rw below.is (some-settled w.past (path_of below.number) (life_at w below.number) (inv.tracks below.number) (can.done.settled below.number below.below));
-                };
-              },
-              before.settling,
-            );
-            launching = (tt, before.launching);
-            attempts = (tt, before.attempts);
-            managers = (tt, before.managers);
-          };
-      ends = λ h. record { over = can.done.over; settled = can.done.settled };
+                settling = (
+                  record {
+                    open_yet = opened;
+                    stands = stands (free-yet w inv losses before) (record {
+                      next = refl;
+                      within = rw table_acts (let whole_count = calls-append (acts_of w.acts ++ act.Call ∷ []) (acts_of on.acts) in omega (arith, whole_count, counted));
+                      same_app = ap (option_map (λ (t : Expected). t.app)) (ap (task_at (table w.tree losses)) (sym path_here) ∙ new.is) ∙ ap Some (new.app ∙ ap (λ (b : Call). name_in (slice_get (apps_in w) b.app)) here);
+                      waited = subst (λ (l : List MainEvent). AllSettled (waits_before (submits w.past) l) w.past) (sym table_acts) (rw (waits_before-append (submits w.past) (acts_of w.acts ++ act.Call ∷ []) (acts_of on.acts) (omega (arith, counted))) (subst (λ (m : ℕ). AllSettled (waits_before m (acts_of w.acts ++ act.Call ∷ [])) w.past) h.main.called (waits_before-settled (acts_of w.acts) w.past h.main.waits)));
+                    });
+                  },
+                  b.settling,
+                );
+                launching = (tt, b.launching);
+                attempts = (tt, b.attempts);
+                managers = (tt, b.managers);
+              };
+          ends = λ g. absurd (cc);
+        };
+      };
+      quiet = main_quiet w c rs acts inv refl;
     }
-
-refused-grows : (w : Known) → Grows w (refused w)
-refused-grows w = record { script = refl; outcome = λ k outcome h. h; calls = omega arith; call = λ k h. refl; waits = λ k h. refl; over = λ h. (h, refl) }
-
-pub keep-refused : (w : Known) → Inv w → Inv (refused w)
-keep-refused w inv =
-    keep-leaving w w.rest w.raised w.acts true inv (record {
-      grows = refused-grows w;
-      bound = inv.bound;
-      mains = inv.mains;
-      called = inv.called;
-      waits = inv.waits;
-      goes_on = λ losses before. refl;
-      ends = λ h. let done = inv.ends h in record { over = done.over; settled = done.settled };
-    })

@@ -1,251 +1,244 @@
--- A run comes to its end: each turn leaves fewer turns, and before the end some turn is ready.
-use Rattle.std.proofs.Common.{◌≡◌, ◌≢◌, ℕ, zero, suc, ◌+◌, ◌<◌, Bool, true, false, ◌||◌, List, [], ◌∷◌, ◌++◌, length, Option, Some, None, IsSome, get_or, set, refl, sym, ◌∙◌, ap, subst, arith, length-set, inl, inr}
-use Rattle.std.specs.Prelude.{is_some}
-use Rattle.std.proofs.lemmas.Bool.{cases_eq, or_parts}
+-- Before the end some turn is ready.
+use Rattle.std.proofs.Common.{◌≡◌, ◌≢◌, ℕ, zero, suc, ◌+◌, ◌<◌, ◌≤◌, true, List, [], ◌∷◌, length, Option, Some, None, IsSome, refl, sym, ◌∙◌, ap, subst, arith}
+use Rattle.std.specs.Prelude.{slice_get, Result, nat_lt}
+use Rattle.std.proofs.lemmas.Bool.Decides.{nat_tests}
+use Rattle.flow_base.specs.declared.value.Value.{Value, out-Value}
+use Rattle.flow_base.specs.declared.outcome.Ending.{Ending}
 use Rattle.flow_base.specs.declared.outcome.Exception.{Exception}
 use Rattle.flow_base.specs.declared.outcome.Outcome.{Outcome}
-use Rattle.flow_base.specs.declared.outcome.Outcome.TheVariants as o
-use Rattle.small_tree.specs.declared.small.SmallStatement.{SmallStatement}
-use Rattle.small_tree.specs.declared.small.SmallStatement.TheVariants as small
 use Rattle.task_record.specs.declared.status.Status.{Status}
 use Rattle.task_record.specs.declared.status.Status.TheVariants as status
-use Rattle.event_log.specs.declared.entry.Entry.{Entry}
-use Rattle.event_log.specs.declared.entry.Entry.TheVariants as entry
-use Rattle.flow_meaning.specs.Inputs.{Path}
-use Rattle.flow_meaning.specs.Sequential.{outcome_at}
-use Rattle.flow_meaning.specs.Operators.{Text}
-use Rattle.history_laws.specs.Reads.{has_end}
-use Rattle.history_laws.specs.Tables.{status_of}
-use Rattle.dependency_graph.specs.declared.readiness.Readiness.{Readiness}
-use Rattle.dependency_graph.specs.declared.readiness.Readiness.TheVariants as readiness
-use Rattle.dependency_graph.specs.Readiness.{ready}
-use Rattle.small_meaning.specs.Plan.{is_sound_main, place_of}
-use Rattle.small_meaning.proofs.Runs.{place-below}
-use Rattle.small_meaning.proofs.Whole.{sound-print}
+use Rattle.flow_meaning.specs.declared.walk.Request.{Request}
+use Rattle.flow_meaning.specs.declared.walk.Request.TheVariants as request
+use Rattle.flow_meaning.specs.declared.walk.Answer.{Answer}
+use Rattle.flow_meaning.specs.Act.{Act, Give, Throw, Ask}
+use Rattle.flow_meaning.specs.Inputs.{Path, path_in}
+use Rattle.flow_meaning.specs.Meaning.{Done}
+use Rattle.flow_meaning.specs.Sequential.{Task, outcome_at}
+use Rattle.body_requests.specs.Asks.{Each}
+use Rattle.call_rules.specs.Calls.{Call, child, found, task_of, call_in, calls_below, calls_with, awaited, join_dry, has_room}
+use Rattle.history_laws.specs.Reads.{submits, lost}
 use Rattle.kernel_model.specs.declared.answers.ScriptTurn.TheVariants as turn
-use Rattle.kernel_model.specs.Known.{Known, Life, no_life, path_of, call_at, life_at, status_at, settled_outcome, inputs_at, known, word_of, is_empty, has_ended, IsDone}
-use Rattle.kernel_model.specs.Invariants.{AllKnown, AreBelow, IsReached, Inv}
-use Rattle.kernel_model.specs.Acts.{pending, put, started, finished, settled_as, over}
-use Rattle.kernel_model.specs.Turns.{with_outcome, statement_step, unless_raised, script_step, IsCallback, CallbackTurn, SettleTurn, EndTurn, carried_out}
-use Rattle.kernel_model.specs.Work.{turns_of, turns_in, last_turn, turns_left, NoneRuns}
-use Rattle.kernel_model.proofs.Places.{life-same, life-other, known-at, status-within, by-state}
-use Rattle.kernel_model.proofs.Agreeing.{small-below}
-
--- ---- each turn leaves fewer turns
-
--- a write takes the turns of the old life away
-turns-set : (lives : List Life) (k : ℕ) (life : Life) → k < length lives → turns_in (set lives k life) + turns_of (get_or lives k no_life).status ≡ turns_in lives + turns_of life.status
-turns-set [] k life within = absurd (omega arith)
-turns-set (l ∷ lives) zero life within = omega arith
-turns-set (l ∷ lives) (suc k) life within = let further = turns-set lives k life (omega arith) in omega arith
-
-turns-push : (lives : List Life) (life : Life) → turns_in (lives ++ life ∷ []) ≡ turns_in lives + turns_of life.status
-turns-push [] life = omega arith
-turns-push (l ∷ lives) life = let further = turns-push lives life in omega arith
-
-put-leaves : (w : Known) (k : ℕ) (life : Life) (e : Entry) (s : Status) → length w.lives ≡ length w.calls → status_at w k ≡ s → s ≢ status.Unsched → has_end (e ∷ w.past) ≡ has_end w.past → turns_of life.status < turns_of s → turns_left (put w k life e) < turns_left w
-put-leaves w k life e s same is there ends fewer =
-    let within = status-within w k same (λ h. there (sym is ∙ h)) in
-    let sums = turns-set w.lives k life (omega arith) in
-    let old : turns_of (status_at w k) ≡ turns_of s = ap turns_of is in
-    let last : last_turn (has_end (e ∷ w.past)) ≡ last_turn (has_end w.past) = ap last_turn ends in
-    omega arith
-
--- a settled task takes no turn, and doesn't run
-turns-settled : (outcome : Outcome) → turns_of (status_of outcome) ≡ 0
-turns-settled = by-state (λ s. turns_of s ≡ 0) refl refl refl
-
-outcome-leaves : (w : Known) (k : ℕ) (rest : List SmallStatement) (variable : Text) (found : Option Outcome) → w.raised ≡ None → w.rest ≡ small.Print variable ∷ rest → (with_outcome w k rest found).0 ≡ turn.Advanced → turns_left (with_outcome w k rest found).1 < turns_left w
-outcome-leaves w k rest variable None going next advances = absurd (cc)
-outcome-leaves w k rest variable (Some (o.Value value files)) going next advances = rw (going, next) (omega arith)
-outcome-leaves w k rest variable (Some (o.Failed exception)) going next advances = rw (going, next) (omega arith)
-
-statement-leaves : (w : Known) (statements : List SmallStatement) → w.raised ≡ None → w.rest ≡ statements → (statement_step w statements).0 ≡ turn.Advanced → turns_left (statement_step w statements).1 < turns_left w
-statement-leaves w [] going next advances = absurd (cc)
-statement-leaves w (small.Call variable app arguments ∷ rest) going next advances = let pushed = turns-push w.lives pending in rw (going, next) (omega arith)
-statement-leaves w (small.Print variable ∷ rest) going next advances = outcome-leaves w (place_of w.variables variable) rest variable (settled_outcome w (place_of w.variables variable)) going next advances
-
-raised-leaves : (w : Known) (raised : Option Exception) → w.raised ≡ raised → (unless_raised raised w (statement_step w w.rest)).0 ≡ turn.Advanced → turns_left (unless_raised raised w (statement_step w w.rest)).1 < turns_left w
-raised-leaves w None is advances = statement-leaves w w.rest is refl advances
-raised-leaves w (Some exception) is advances = absurd (cc)
-
-pub script-leaves : (w : Known) → (script_step w).0 ≡ turn.Advanced → turns_left (script_step w).1 < turns_left w
-script-leaves w advances = raised-leaves w w.raised refl advances
-
-carried-leaves : (w : Known) (k : ℕ) (what : Readiness) → length w.lives ≡ length w.calls → status_at w k ≡ status.Pending → turns_left (carried_out w k what) < turns_left w
-carried-leaves w k (readiness.Settles exception) same is =
-    let none = turns-settled (o.Failed exception) in
-    put-leaves w k _ (entry.Settled (path_of k) (status_of (o.Failed exception))) status.Pending same is (λ h. cc) refl (omega arith)
-carried-leaves w k (readiness.Runs values) same is =
-    put-leaves w k _ (entry.Launch (path_of k) ((life_at w k).attempts + 1)) status.Pending same is (λ h. cc) refl (omega arith)
-
-pub callback-leaves : (w v : Known) → length w.lives ≡ length w.calls → CallbackTurn w true v → turns_left v < turns_left w
-callback-leaves w v same did =
-    let k = did.task in
-    let fewer = carried-leaves w k (ready (known w) (call_at w k).arguments) same did.callback.pending in
-    subst (λ (u : Known). turns_left u < turns_left w) (sym did.after) fewer
-
-pub start-leaves : (w : Known) (k : ℕ) → length w.lives ≡ length w.calls → status_at w k ≡ status.Launched → turns_left (started w k) < turns_left w
-start-leaves w k same is = put-leaves w k _ (entry.Start (path_of k) (life_at w k).attempts 1) status.Launched same is (λ h. cc) refl (omega arith)
-
-pub finish-leaves : (w : Known) (k : ℕ) (outcome : Outcome) → length w.lives ≡ length w.calls → status_at w k ≡ status.Running → turns_left (finished w k outcome) < turns_left w
-finish-leaves w k outcome same is = put-leaves w k _ (entry.Ended (path_of k) (life_at w k).attempts 1 (word_of outcome)) status.Running same is (λ h. cc) refl (omega arith)
-
-pub settle-leaves : (w v : Known) → length w.lives ≡ length w.calls → SettleTurn w true v → turns_left v < turns_left w
-settle-leaves w v same did =
-    let k = did.task in
-    let outcome = did.outcome in
-    let none = turns-settled outcome in
-    let fewer : turns_left (settled_as w k outcome) < turns_left w
-    = put-leaves w k _ (entry.Settled (path_of k) (status_of outcome)) status.RunningEnded same did.over (λ h. cc) refl (omega arith) in
-    subst (λ (u : Known). turns_left u < turns_left w) (sym did.after) fewer
-
-pub end-leaves : (w v : Known) → has_ended w ≡ false → EndTurn w true v → turns_left v < turns_left w
-end-leaves w v not_ended did =
-    let still : has_end w.past ≡ false = (or_parts w.refused (has_end w.past) not_ended).1 in
-    let last : last_turn (has_end w.past) ≡ 1 = ap last_turn still in
-    let fewer : turns_left (over w) < turns_left w = omega arith in
-    subst (λ (u : Known). turns_left u < turns_left w) (sym did.1) fewer
-
--- ---- no attempt runs between rounds
-
-abbrev DoesNotRun : Life → Type 0
-DoesNotRun life = life.status ≢ status.Running
-
--- a write of a task that doesn't run then, where no other runs
-put-runs-none : (w : Known) (k : ℕ) (life : Life) (e : Entry) → k < length w.calls → length w.lives ≡ length w.calls → DoesNotRun life → ((j : ℕ) → j ≢ k → DoesNotRun (life_at w j)) → NoneRuns (put w k life e)
-put-runs-none w k life e within same idle others j =
-    elim (cases_eq j k) [
-      | inl eq ↦ rw eq (subst DoesNotRun (sym (life-same w k life e (omega arith))) idle)
-      | inr ne ↦ subst DoesNotRun (sym (life-other w k j life e ne)) (others j ne)
-    ]
-
--- a call is pending at first
-push-runs-none : (lives : List Life) → ((k : ℕ) → (get_or lives k no_life).status ≢ status.Running) → (k : ℕ) → (get_or (lives ++ pending ∷ []) k no_life).status ≢ status.Running
-push-runs-none [] none zero = λ h. cc
-push-runs-none [] none (suc k) = λ h. cc
-push-runs-none (life ∷ lives) none zero = none zero
-push-runs-none (life ∷ lives) none (suc k) = push-runs-none lives (λ j. none (suc j)) k
-
-outcome-runs-none : (w : Known) (k : ℕ) (rest : List SmallStatement) (found : Option Outcome) → NoneRuns w → NoneRuns (with_outcome w k rest found).1
-outcome-runs-none w k rest None none = none
-outcome-runs-none w k rest (Some (o.Value value files)) none = none
-outcome-runs-none w k rest (Some (o.Failed exception)) none = none
-
-statement-runs-none : (w : Known) (statements : List SmallStatement) → NoneRuns w → NoneRuns (statement_step w statements).1
-statement-runs-none w [] none = none
-statement-runs-none w (small.Call variable app arguments ∷ rest) none = push-runs-none w.lives none
-statement-runs-none w (small.Print variable ∷ rest) none = outcome-runs-none w (place_of w.variables variable) rest (settled_outcome w (place_of w.variables variable)) none
-
-raised-runs-none : (w : Known) (raised : Option Exception) → NoneRuns w → NoneRuns (unless_raised raised w (statement_step w w.rest)).1
-raised-runs-none w None none = statement-runs-none w w.rest none
-raised-runs-none w (Some exception) none = none
-
-pub script-runs-none : (w : Known) → length w.lives ≡ length w.calls → NoneRuns w → NoneRuns (script_step w).1
-script-runs-none w same none = raised-runs-none w w.raised none
-
-settled-runs-none : (w : Known) (k : ℕ) (outcome : Outcome) → k < length w.calls → length w.lives ≡ length w.calls → NoneRuns w → NoneRuns (settled_as w k outcome)
-settled-runs-none w k outcome within same none =
-    put-runs-none w k _ (entry.Settled (path_of k) (status_of outcome)) within same
-    (by-state (λ s. s ≢ status.Running) (λ h. cc) (λ h. cc) (λ h. cc) outcome) (λ j ne. none j)
-
-carried-runs-none : (w : Known) (k : ℕ) (what : Readiness) → k < length w.calls → length w.lives ≡ length w.calls → NoneRuns w → NoneRuns (carried_out w k what)
-carried-runs-none w k (readiness.Settles exception) within same none = settled-runs-none w k (o.Failed exception) within same none
-carried-runs-none w k (readiness.Runs values) within same none = put-runs-none w k _ (entry.Launch (path_of k) ((life_at w k).attempts + 1)) within same (λ h. cc) (λ j ne. none j)
-
-pub callback-runs-none : (w v : Known) (did : Bool) → length w.lives ≡ length w.calls → CallbackTurn w did v → NoneRuns w → NoneRuns v
-callback-runs-none w v true same did none =
-    let k = did.task in
-    let is = did.callback.pending in
-    let within = status-within w k same (λ h. absurd (cc)) in
-    subst (λ (u : Known). NoneRuns u) (sym did.after) (carried-runs-none w k (ready (known w) (call_at w k).arguments) within same none)
-callback-runs-none w v false same did none = subst (λ (u : Known). NoneRuns u) (sym did.1) none
-
-pub finish-runs-none : (w : Known) (k : ℕ) (outcome : Outcome) → length w.lives ≡ length w.calls → status_at w k ≡ status.Launched → NoneRuns w → NoneRuns (finished (started w k) k outcome)
-finish-runs-none w k outcome same is none =
-    let within = status-within w k same (λ h. absurd (cc)) in
-    put-runs-none (started w k) k _ (entry.Ended (path_of k) (life_at (started w k) k).attempts 1 (word_of outcome)) within (length-set w.lives k _ ∙ same) (λ h. cc)
-    (λ j ne. subst DoesNotRun (sym (life-other w k j _ (entry.Start (path_of k) (life_at w k).attempts 1) ne)) (none j))
-
-pub settle-runs-none : (w v : Known) (did : Bool) → length w.lives ≡ length w.calls → SettleTurn w did v → NoneRuns w → NoneRuns v
-settle-runs-none w v true same did none =
-    let k = did.task in
-    let is = did.over in
-    let within = status-within w k same (λ h. absurd (cc)) in
-    subst (λ (u : Known). NoneRuns u) (sym did.after) (settled-runs-none w k did.outcome within same none)
-settle-runs-none w v false same did none = subst (λ (u : Known). NoneRuns u) (sym did.1) none
-
-pub end-runs-none : (w v : Known) (did : Bool) → EndTurn w did v → NoneRuns w → NoneRuns v
-end-runs-none w v true did none = subst (λ (u : Known). NoneRuns u) (sym did.1) none
-end-runs-none w v false did none = subst (λ (u : Known). NoneRuns u) (sym did.1) none
-
--- ---- some turn is ready
+use Rattle.call_rules.specs.Groups.{IsEarlier, IsPlainOutcome, IsPlaced, first, below, AllKnown, HasTask}
+use Rattle.kernel_model.specs.Known.{Known, call_at, path_at, life_at, status_at, settled_outcome, inputs_at, known, main_left, apps_in, IsDone}
+use Rattle.kernel_model.specs.Invariants.{IsReached, IsOf, of_main, of_join, FollowsEvaluation, IsJoined, Inv}
+use Rattle.kernel_model.specs.Turns.{IsCallback, IsJoinDone, outcome_step, wait_step, act_step, unless_ended, script_step}
+use Rattle.call_rules.proofs.Tasks.{parent-same, child-same, length-child, same-some, found-known}
+use Rattle.call_rules.proofs.Agreeing.{calls-agree, begin-room}
+use Rattle.call_rules.proofs.Plain.{IsPlainKnown, ArePlain}
+use Rattle.call_rules.proofs.Asking.{asks-wait}
+use Rattle.call_rules.proofs.Evaluating.{whole-ruled, join-waits}
+use Rattle.kernel_model.proofs.Places.{known-at, IsAt}
+use Rattle.kernel_model.proofs.Knowing.{known-whole, ruled-at, calls-path, whole-agrees}
+use Rattle.kernel_model.proofs.KeepingTasks.{path-long}
+use Rattle.kernel_model.proofs.KeepingEnd.{slice-there}
+use Rattle.call_rules.specs.Told.{whole_ran, whole, IsChild, Asks}
 
 -- no turn is ready, and no attempt runs
-record IsIdle (w : Known) : Type 0 where
-  none_runs : NoneRuns w
-  script : (script_step w).0 ≡ turn.Advanced → ⊥
-  callbacks : (k : ℕ) → IsCallback w k → ⊥
-  launches : (k : ℕ) → status_at w k ≢ status.Launched
-  ends : (k : ℕ) → status_at w k ≢ status.RunningEnded
+pub record IsIdle (w : Known) : Type 0 where
+  pub none_runs : (k : ℕ) → status_at w k ≢ status.Running
+  pub script : (script_step w).0 ≡ turn.Advanced → ⊥
+  pub callbacks : (k : ℕ) → IsCallback w k → ⊥
+  pub joins : (k : ℕ) → IsJoinDone w k → ⊥
+  pub launches : (k : ℕ) → status_at w k ≢ status.Launched
+  pub ends : (k : ℕ) → status_at w k ≢ status.RunningEnded
 
-settled-known : (w : Known) → length w.lives ≡ length w.calls → (k : ℕ) → ((j : ℕ) → j < k → IsSome (settled_outcome w j)) → (ps : List Path) → AreBelow k ps → AllKnown (known w) ps
-settled-known w same k earlier [] below = tt
-settled-known w same k earlier (p ∷ ps) below =
-    let b = below.0 in
-    let is : outcome_at (known w) p ≡ settled_outcome w b.number = ap (outcome_at (known w)) b.is ∙ known-at w b.number same in
-    (rw is (earlier b.number b.below), settled-known w same k earlier ps below.1)
+module _ (w : Known) (inv : Inv w) where
+  -- the evaluation under the losses of the history
+  now_is : FollowsEvaluation (lost w.past) w
+  now_is = inv.holds.right.evaluates (lost w.past) inv.holds.right.fits
 
--- a task whose inputs are settled is settled
-settled-next : (w : Known) → Inv w → IsIdle w → (k : ℕ) → k < length w.calls → ((j : ℕ) → j < k → IsSome (settled_outcome w j)) → IsSome (settled_outcome w k)
-settled-next w inv idle k within earlier = by_status (status_at w k) refl (inv.tracks k).reached
-  where
-    by_status : (s : Status) → status_at w k ≡ s → IsReached s (life_at w k).end → IsSome (settled_outcome w k)
-    by_status status.Unsched is reached = absurd (inv.begun k within is)
-    by_status status.Pending is reached = absurd (idle.callbacks k (record { pending = is; inputs = settled-known w inv.lives k earlier (inputs_at w k) (small-below w.script.apps k (call_at w k) (inv.small k within)) }))
-    by_status status.Launched is reached = absurd (idle.launches k is)
-    by_status status.Running is reached = absurd (idle.none_runs k is)
-    by_status status.RunningEnded is reached = absurd (idle.ends k is)
-    by_status status.Joining is reached = absurd reached
-    by_status status.ExecDone is reached = rw is reached
-    by_status status.MemoDone is reached = absurd reached
-    by_status status.Failed is reached = rw is reached
-    by_status status.DepFail is reached = rw is reached
-    by_status status.FailRetryable is reached = absurd reached
+  -- the i-th call of a join that ran is there
+  child_there : (k : ℕ) (result : Result Done Exception) → k < length w.calls → (j : IsJoined w k result) → (i : ℕ) → i < length (calls_below (apps_in w) (known w) (call_at w k)) → IsAt w (child (path_at w k) i)
+  child_there k result within j i lt =
+      let dried : calls_below (apps_in w) (known w) (call_at w k) ≡ (join_dry (apps_in w) (path_at w k) j.app j.values).1 = ap (calls_with (apps_in w) (path_at w k)) j.begins in
+      let c = slice-there (calls_below (apps_in w) (known w) (call_at w k)) i lt in
+      let called = j.children i c.0 (ap (λ (cs : List Call). slice_get cs i) (sym dried) ∙ c.1) (λ m d. (let few = inv.quiet k m within d in omega arith)) in
+      record { place = called.place; within = called.within; is = ap (λ (b : Call). b.path) called.is ∙ calls-path (apps_in w) (known w) (call_at w k) i c.0 c.1 }
 
-settled-below : (w : Known) → Inv w → IsIdle w → (n k : ℕ) → k < n → k < length w.calls → IsSome (settled_outcome w k)
-settled-below w inv idle zero k lt within = absurd (omega arith)
-settled-below w inv idle (suc n) k lt within = settled-next w inv idle k within (λ j before. settled-below w inv idle n j (omega arith) (omega arith))
+  -- a call of a join has a number below that of its calls
+  child_number : (k j i : ℕ) → k < length w.calls → j < length w.calls → path_at w k ≡ child (path_at w j) i → AllKnown (known w) (inputs_at w j) → i < length (calls_below (apps_in w) (known w) (call_at w j))
+  child_number k j i within lj at inputs_known = by_place ((whole-ruled w.tree inv.holds.told (lost w.past)).placed (path_at w k) _ here.at)
+    where
+      here : HasTask (whole w.tree (lost w.past)) (call_at w k)
+      here = now_is.placed k within
 
-settled-all : (w : Known) → Inv w → IsIdle w → (k : ℕ) → k < length w.calls → IsSome (settled_outcome w k)
-settled-all w inv idle k within = settled-below w inv idle (suc k) k (omega arith) within
+      by_place : IsPlaced (apps_in w) (whole w.tree (lost w.past)) [] (whole_ran w.tree (lost w.past)).1.made.calls (path_at w k) → i < length (calls_below (apps_in w) (known w) (call_at w j))
+      by_place (first n lt is) = absurd (let empty = parent-same (path_at w j) [] i n (sym at ∙ is) in let short = ap length empty in let long = path-long w j (inv.holds.tracks.family j lj) in omega arith)
+      by_place (below s n found_at lt is) =
+          let caller : path_at w j ≡ s.path = parent-same (path_at w j) s.path i n (sym at ∙ is) in
+          let there = now_is.placed j lj in
+          let task : s ≡ task_of (call_at w j) there.outcome = same-some s _ (sym found_at ∙ ap (found (whole w.tree (lost w.past))) (sym caller) ∙ there.at) in
+          let calls : calls_below (apps_in w) (whole w.tree (lost w.past)) (call_in s) ≡ calls_below (apps_in w) (known w) (call_at w j)
+          = ap (λ (x : Task). calls_below (apps_in w) (whole w.tree (lost w.past)) (call_in x)) task ∙ calls-agree (apps_in w) (whole w.tree (lost w.past)) (known w) (call_at w j) (whole-agrees w (lost w.past) inv.holds.tracks now_is (inputs_at w j) inputs_known) in
+          let number : i ≡ n = child-same (path_at w j) i n (sym at ∙ is ∙ ap (λ (p : Path). child p n) (sym caller)) in
+          omega (arith, ap length calls, lt, number)
 
-outcome-advances : (w : Known) (k : ℕ) (rest : List SmallStatement) (found : Option Outcome) → IsSome found → (with_outcome w k rest found).0 ≡ turn.Advanced
-outcome-advances w k rest None there = absurd (cc)
-outcome-advances w k rest (Some (o.Value value files)) there = refl
-outcome-advances w k rest (Some (o.Failed exception)) there = refl
+  some_ran : (j : ℕ) → IsSome (life_at w j).ran → (result : Result Done Exception) × ((life_at w j).ran ≡ Some result)
+  some_ran j h = by_ran (life_at w j).ran refl h
+    where
+      by_ran : (r : Option (Result Done Exception)) → (life_at w j).ran ≡ r → IsSome r → (result : Result Done Exception) × ((life_at w j).ran ≡ Some result)
+      by_ran (Some result) e there = (result, e)
+      by_ran None e there = absurd (cc)
 
-statement-over : (w : Known) → Inv w → IsIdle w → (statements : List SmallStatement) → w.rest ≡ statements → ((statement_step w statements).0 ≡ turn.Advanced → ⊥) → is_empty statements ≡ true
-statement-over w inv idle [] next stuck = refl
-statement-over w inv idle (small.Call variable app arguments ∷ rest) next stuck = absurd (stuck refl)
-statement-over w inv idle (small.Print variable ∷ rest) next stuck =
-    let sound : is_sound_main w.script.apps w.variables (small.Print variable ∷ rest) ≡ true = let mains = inv.mains in rw next at mains in
-    let below = place-below w.variables variable (sound-print w.script.apps w.variables variable rest sound).there in
-    let same = inv.variables in
-    let k : ℕ = place_of w.variables variable in
-    absurd (stuck (outcome-advances w k rest (settled_outcome w k) (settled-all w inv idle k (omega arith))))
+  -- an input of a call is an earlier call
+  earlier_there : (k : ℕ) → k < length w.calls → (q : Path) → IsEarlier (path_at w k) q → IsAt w q
+  earlier_there k within q h = by_kind (inv.holds.tracks.family k within)
+    where
+      by_kind : IsOf w k → IsAt w q
+      by_kind (of_main i lt at) =
+          let callers : [] ≡ h.caller = parent-same [] h.caller i h.number (sym at ∙ h.this) in
+          let number : i ≡ h.number = child-same [] i h.number (sym at ∙ h.this ∙ ap (λ (p : Path). child p h.number) (sym callers)) in
+          let less = h.less in
+          let found = inv.holds.main.mains h.before (omega arith) in
+          record { place = found.0; within = found.1; is = found.2 ∙ ap (λ (p : Path). child p h.before) callers ∙ sym h.other }
+      by_kind (of_join j i lj ran at) =
+          let callers : path_at w j ≡ h.caller = parent-same (path_at w j) h.caller i h.number (sym at ∙ h.this) in
+          let number : i ≡ h.number = child-same (path_at w j) i h.number (sym at ∙ h.this ∙ ap (λ (p : Path). child p h.number) (sym callers)) in
+          let result = some_ran j ran in
+          let joined = inv.holds.joins.ran j result.0 result.1 in
+          let bound = child_number k j i within lj at joined.inputs in
+          let less = h.less in
+          let there = child_there j result.0 lj joined h.before (omega arith) in
+          record { place = there.place; within = there.within; is = there.is ∙ ap (λ (p : Path). child p h.before) callers ∙ sym h.other }
 
-main-over : (w : Known) → Inv w → IsIdle w → (raised : Option Exception) → ((unless_raised raised w (statement_step w w.rest)).0 ≡ turn.Advanced → ⊥) → (is_some raised || is_empty w.rest) ≡ true
-main-over w inv idle None stuck = statement-over w inv idle w.rest refl stuck
-main-over w inv idle (Some exception) stuck = refl
+  -- values that are known are plain
+  known_plain : (ps : List Path) → AllKnown (known w) ps → ArePlain (known w) ps
+  known_plain [] h = tt
+  known_plain (p ∷ ps) h = (by_outcome (outcome_at (known w) p) refl h.0, known_plain ps h.1)
+    where
+      by_outcome : (r : Option Outcome) → outcome_at (known w) p ≡ r → IsSome r → IsPlainKnown (outcome_at (known w) p)
+      by_outcome None e there = absurd (cc)
+      by_outcome (Some outcome) e there =
+          let f = found-known (whole w.tree (lost w.past)) p outcome (known-whole w (lost w.past) inv.holds.tracks now_is p outcome e) in
+          rw e (subst IsPlainOutcome f.1.1 ((whole-ruled w.tree inv.holds.told (lost w.past)).ruled p f.0 f.1.0).plain)
 
--- where no turn is ready and no attempt runs, all is done
-pub all-done : (w : Known) → Inv w → NoneRuns w
-    → ((script_step w).0 ≡ turn.Advanced → ⊥)
-    → ((k : ℕ) → IsCallback w k → ⊥)
-    → ((k : ℕ) → status_at w k ≢ status.Launched)
-    → ((k : ℕ) → status_at w k ≢ status.RunningEnded)
-    → IsDone w
-all-done w inv none script callbacks launches ends =
-    let idle : IsIdle w = record { none_runs = none; script = script; callbacks = callbacks; launches = launches; ends = ends } in
-    record { over = main-over w inv idle w.raised script; settled = settled-all w inv idle }
+  -- what is settled by its place is known by its path
+  all_known : (P : Path → Type 0) → ((p : Path) → P p → (at : IsAt w p) × IsSome (settled_outcome w at.place)) → (ps : List Path) → Each P ps → AllKnown (known w) ps
+  all_known P settles [] h = tt
+  all_known P settles (p ∷ ps) h =
+      let s = settles p h.0 in
+      let at = s.0 in
+      let same : outcome_at (known w) p ≡ settled_outcome w at.place = ap (outcome_at (known w)) (sym at.is) ∙ known-at w inv.holds.tracks at.place at.within in
+      (subst (λ (r : Option Outcome). IsSome r) (sym same) s.1, all_known P settles ps h.1)
+
+  module _ (idle : IsIdle w) where
+    -- a call is settled where the earlier calls of its caller are, and those below it
+    settled_next : (k : ℕ) → k < length w.calls → ((q : Path) → IsEarlier (path_at w k) q → (at : IsAt w q) × IsSome (settled_outcome w at.place))
+        → ((m : ℕ) → m < length w.calls → length (path_at w k) < 64 → length (path_at w m) ≡ length (path_at w k) + 1 → IsSome (settled_outcome w m))
+        → IsSome (settled_outcome w k)
+    settled_next k within earlier children = by_status (status_at w k) refl ((inv.holds.tracks.lived k within).reached)
+      where
+        joining : status_at w k ≡ status.Joining → IsSome (life_at w k).ran → IsSome (settled_outcome w k)
+        joining is ran =
+            let result = some_ran k ran in
+            let j = inv.holds.joins.ran k result.0 result.1 in
+            let room = begin-room (apps_in w) (known w) (call_at w k) j.app j.values j.begins in
+            let short : length (path_at w k) < 64 = short_of (path_at w k) room in
+            let dried : calls_below (apps_in w) (known w) (call_at w k) ≡ (join_dry (apps_in w) (path_at w k) j.app j.values).1 = ap (calls_with (apps_in w) (path_at w k)) j.begins in
+            let waits = join-waits w.tree inv.holds.told (lost w.past) (call_at w k) (known w) j.app j.values j.begins (known_plain (inputs_at w k) j.inputs) in
+            let waits_are : Each (IsChild (path_at w k) (length (calls_below (apps_in w) (known w) (call_at w k)))) (awaited result.0) = subst (λ (r : Result Done Exception). Each (IsChild (path_at w k) (length (calls_below (apps_in w) (known w) (call_at w k)))) (awaited r)) (sym j.gave) (subst (λ (cs : List Call). Each (IsChild (path_at w k) (length cs)) (awaited (join_dry (apps_in w) (path_at w k) j.app j.values).0)) (sym dried) waits) in
+            absurd (idle.joins k (record {
+              joining = is;
+              result = result.0;
+              ran = result.1;
+              awaited = all_known (IsChild (path_at w k) (length (calls_below (apps_in w) (known w) (call_at w k)))) (λ q h.
+                  let there = child_there k result.0 within j h.number h.below in
+                  (record { place = there.place; within = there.within; is = there.is ∙ sym h.is }, children there.place there.within short (ap length there.is ∙ length-child (path_at w k) h.number))) (awaited result.0) waits_are;
+            }))
+          where
+            short_of : (p : Path) → has_room p ≡ true → length p < 64
+            short_of p t = lt_of (length p) 64 t
+              where
+                lt_of : (x y : ℕ) → nat_lt x y ≡ true → x < y
+                lt_of x y h = grind (arith, nat_tests)
+
+        pending : status_at w k ≡ status.Pending → IsSome (settled_outcome w k)
+        pending is =
+            let there = now_is.placed k within in
+            let ruled = ruled-at w (lost w.past) inv.holds.told now_is k within there in
+            absurd (idle.callbacks k (record { pending = is; inputs = all_known (IsEarlier (path_at w k)) earlier (inputs_at w k) ruled.earlier }))
+
+        by_status : (s : Status) → status_at w k ≡ s → IsReached (life_at w k) s → IsSome (settled_outcome w k)
+        by_status status.Unsched is reached = absurd (inv.holds.tracks.begun k within is)
+        by_status status.Pending is reached = pending is
+        by_status status.Launched is reached = absurd (idle.launches k is)
+        by_status status.Running is reached = absurd (idle.none_runs k is)
+        by_status status.RunningEnded is reached = absurd (idle.ends k is)
+        by_status status.Joining is reached = joining is reached
+        by_status status.ExecDone is reached = rw is reached
+        by_status status.MemoDone is reached = absurd reached
+        by_status status.Failed is reached = rw is reached
+        by_status status.DepFail is reached = rw is reached
+        by_status status.FailRetryable is reached = absurd reached
+
+    -- by the number in the group, where longer paths are settled
+    by_number : (room : ℕ) → ((k m : ℕ) → 64 ≤ room + length (path_at w k) → m < length w.calls → length (path_at w k) < 64 → length (path_at w m) ≡ length (path_at w k) + 1 → IsSome (settled_outcome w m))
+        → (n k : ℕ) (caller : Path) (i : ℕ) → k < length w.calls → 64 ≤ room + length (path_at w k) → path_at w k ≡ child caller i → i < n → IsSome (settled_outcome w k)
+    by_number room longer zero k caller i within deep at lt = absurd (omega arith)
+    by_number room longer (suc n) k caller i within deep at lt =
+        settled_next k within
+        (λ q h.
+        let there = earlier_there k within q h in
+        let callers : caller ≡ h.caller = parent-same caller h.caller i h.number (sym at ∙ h.this) in
+        let number : i ≡ h.number = child-same caller i h.number (sym at ∙ h.this ∙ ap (λ (p : Path). child p h.number) (sym callers)) in
+        let same_length : length (path_at w there.place) ≡ length (path_at w k) = ap length (there.is ∙ h.other) ∙ length-child h.caller h.before ∙ sym (ap length h.this ∙ length-child h.caller h.number) in
+        let less = h.less in
+        (there, by_number room longer n there.place caller h.before there.within (omega (arith, deep, same_length)) (there.is ∙ h.other ∙ ap (λ (p : Path). child p h.before) (sym callers)) (omega arith)))
+        (λ m lm short long. longer k m deep lm short long)
+
+    -- by how many numbers a path may still get
+    by_depth : (room k : ℕ) → k < length w.calls → 64 ≤ room + length (path_at w k) → IsSome (settled_outcome w k)
+    by_depth zero k within deep = by_family (inv.holds.tracks.family k within) (λ caller i at. by_number zero (λ j m deeper lm short long. absurd (omega (arith, deeper, short))) (suc i) k caller i within deep at (omega arith))
+      where
+        by_family : IsOf w k → ((caller : Path) (i : ℕ) → path_at w k ≡ child caller i → IsSome (settled_outcome w k)) → IsSome (settled_outcome w k)
+        by_family (of_main i lt at) h = h [] i at
+        by_family (of_join j i lt ran at) h = h (path_at w j) i at
+    by_depth (suc room) k within deep = by_family (inv.holds.tracks.family k within) (λ caller i at. by_number (suc room) (λ j m deeper lm short long. by_depth room m lm (omega (arith, deeper, long))) (suc i) k caller i within deep at (omega arith))
+      where
+        by_family : IsOf w k → ((caller : Path) (i : ℕ) → path_at w k ≡ child caller i → IsSome (settled_outcome w k)) → IsSome (settled_outcome w k)
+        by_family (of_main i lt at) h = h [] i at
+        by_family (of_join j i lt ran at) h = h (path_at w j) i at
+
+    pub settled-all : (k : ℕ) → k < length w.calls → IsSome (settled_outcome w k)
+    settled-all k within = by_depth 64 k within (omega arith)
+
+    -- main waits for nothing that has settled
+    advances : (p : Path) → IsAt w p → (outcome_step w p (outcome_at (known w) p)).0 ≡ turn.Advanced
+    advances p at =
+        let same : outcome_at (known w) p ≡ settled_outcome w at.place = ap (outcome_at (known w)) (sym at.is) ∙ known-at w inv.holds.tracks at.place at.within in
+        by_outcome (outcome_at (known w) p) (subst (λ (r : Option Outcome). IsSome r) (sym same) (settled-all at.place at.within))
+      where
+        by_outcome : (r : Option Outcome) → IsSome r → (outcome_step w p r).0 ≡ turn.Advanced
+        by_outcome (Some outcome) h = refl
+        by_outcome None h = absurd (cc)
+
+    wait_advances : (wanted : Request) (go : Answer → Act Done) (f : Value) → ((p : Path) (qs : List Path) → path_in (out-Value f) ≡ p ∷ qs → IsChild [] (submits w.past) p) → (wait_step w (path_in (out-Value f))).0 ≡ turn.Advanced
+    wait_advances wanted go f told = by_path (path_in (out-Value f)) refl
+      where
+        by_path : (ps : List Path) → path_in (out-Value f) ≡ ps → (wait_step w ps).0 ≡ turn.Advanced
+        by_path [] at = refl
+        by_path (p ∷ qs) at =
+            let h = told p qs at in
+            let there = inv.holds.main.mains h.number h.below in
+            advances p (record { place = there.0; within = there.1; is = there.2 ∙ sym h.is })
+
+    act_advances : (a : Act Done) → main_left w ≡ a → (act_step w a).0 ≡ turn.Advanced
+    act_advances (Give d) left = refl
+    act_advances (Throw exception) left = refl
+    act_advances (Ask (request.Call app arguments names) go) left = refl
+    act_advances (Ask (request.WaitValue f) go) left = let a = subst (Asks [] (submits w.past)) left inv.holds.main.asks in wait_advances (request.WaitValue f) go f (λ p qs at. asks-wait [] (submits w.past) (Ask (request.WaitValue f) go) f p qs a a.told.0 at)
+    act_advances (Ask (request.WaitName f) go) left = let a = subst (Asks [] (submits w.past)) left inv.holds.main.asks in wait_advances (request.WaitName f) go f (λ p qs at. asks-wait [] (submits w.past) (Ask (request.WaitName f) go) f p qs a a.told.0 at)
+    act_advances (Ask (request.Print value) go) left = refl
+    act_advances (Ask request.Checkpoint go) left = refl
+
+    main_over : IsSome w.ending
+    main_over = by_ending w.ending refl
+      where
+        by_ending : (e : Option Ending) → w.ending ≡ e → IsSome w.ending
+        by_ending (Some e) is = rw is refl
+        by_ending None is = absurd (idle.script (ap (λ (e : Option Ending). (unless_ended e w (act_step w (main_left w))).0) is ∙ act_advances (main_left w) refl))
+
+    -- where no turn is ready and no attempt runs, all is done
+    pub all-done : IsDone w
+    all-done = record { over = main_over; settled = settled-all }

@@ -1,6 +1,7 @@
 -- What one more entry changes of what is read from a history.
-use Rattle.std.proofs.Common.{◌≡◌, ◌≢◌, ℕ, zero, suc, ◌+◌, ◌<◌, Bool, true, false, List, [], ◌∷◌, ◌++◌, Option, Some, IsSome, refl, sym, ◌∙◌, ap, arith, bytes_eq}
+use Rattle.std.proofs.Common.{◌≡◌, ◌≢◌, ℕ, zero, suc, ◌+◌, ◌<◌, Bool, true, false, List, [], ◌∷◌, ◌++◌, Option, Some, IsSome, refl, sym, ◌∙◌, ap, arith, bytes_eq, append_assoc}
 use Rattle.std.specs.Prelude.{if◌then◌else◌}
+use Rattle.std.proofs.lemmas.Slice.Eq.{bytes_eq-Decides}
 use Rattle.task_record.specs.declared.status.Status.{Status}
 use Rattle.event_log.specs.declared.entry.Entry.{Entry}
 use Rattle.event_log.specs.declared.entry.Entry.TheVariants as entry
@@ -11,88 +12,111 @@ use Rattle.history_laws.specs.declared.table.MainEvent.{MainEvent}
 use Rattle.history_laws.specs.declared.table.MainEvent.TheVariants as act
 use Rattle.history_laws.specs.declared.table.Retries.{Retries}
 use Rattle.history_laws.specs.Reads.{History, submits, is_submitted, settled, has_end}
-use Rattle.history_laws.specs.Tables.{calls_in, waits_before, acts_of}
+use Rattle.history_laws.specs.Tables.{calls_in, waits_before, acts_of, act_of}
 use Rattle.history_laws.specs.Laws.{AllSettled}
-use Rattle.kernel_model.specs.Known.{Life, path_of, printed_in}
+use Rattle.kernel_model.specs.Known.{Life, printed_in, printed_by}
 use Rattle.kernel_model.specs.Invariants.{IsLife, WaitsSettled}
-use Rattle.std.proofs.Common.{append_assoc}
-use Rattle.history_laws.specs.Tables.{act_of}
-use Rattle.kernel_model.specs.Known.{printed_by}
-use Rattle.kernel_model.proofs.Places.{path-other}
 
 -- an entry of this task other than its submission
-abbrev pub IsOfTask : Entry → ℕ → Type 0
-IsOfTask (entry.Launch p n) k = p ≡ path_of k
-IsOfTask (entry.Start p n manager) k = p ≡ path_of k
-IsOfTask (entry.Ended p n manager kind) k = p ≡ path_of k
-IsOfTask (entry.Settled p s) k = p ≡ path_of k
-IsOfTask _ k = ⊥
+abbrev pub IsOfTask : Entry → Path → Type 0
+IsOfTask (entry.JoinRun q) p = q ≡ p
+IsOfTask (entry.Launch q n) p = q ≡ p
+IsOfTask (entry.Start q n manager) p = q ≡ p
+IsOfTask (entry.Ended q n manager kind) p = q ≡ p
+IsOfTask (entry.Settled q s) p = q ≡ p
+IsOfTask _ p = ⊥
 
-other_path : (p : Path) (k j : ℕ) → p ≡ path_of k → j ≢ k → bytes_eq (path_of j) p ≡ false
-other_path p k j is ne = ap (bytes_eq (path_of j)) is ∙ path-other j k ne
+pub path-same : (p : Path) → bytes_eq p p ≡ true
+path-same p = (bytes_eq-Decides p p).1 refl
+
+pub path-other : (p q : Path) → p ≢ q → bytes_eq p q ≡ false
+path-other p q ne = by_test (bytes_eq p q) refl
+  where
+    by_test : (t : Bool) → bytes_eq p q ≡ t → t ≡ false
+    by_test false e = refl
+    by_test true e = absurd (ne ((bytes_eq-Decides p q).0 e))
+
+other_path : (q p o : Path) → q ≡ p → o ≢ p → bytes_eq o q ≡ false
+other_path q p o is ne = path-other o q (λ e. ne (e ∙ is))
 
 -- it changes nothing of another task
-pub other-life : (r : Retries) (e : Entry) (k j : ℕ) (b : History) (life : Life) → IsOfTask e k → j ≢ k → IsLife r (path_of j) b life → IsLife r (path_of j) (e ∷ b) life
-other-life r (entry.Launch p n) k j b life is ne h =
-    let q = other_path p k j is ne in record {
+pub other-life : (r : Retries) (e : Entry) (p o : Path) (b : History) (life : Life) → IsOfTask e p → o ≢ p → IsLife r o b life → IsLife r o (e ∷ b) life
+other-life r (entry.JoinRun q) p o b life is ne h =
+    let n = other_path q p o is ne in record {
       reached = h.reached;
       first = h.first;
-      opened = λ t. let a = h.opened t in record { attempts = rw q a.attempts; costs = a.costs; stage = rw q a.stage; last = rw q a.last; unsettled = a.unsettled };
+      joined = rw n h.joined;
+      opened = λ t. let a = h.opened t in record { attempts = a.attempts; costs = a.costs; stage = a.stage; last = a.last; unsettled = a.unsettled };
       closed = λ t. let c = h.closed t in record { settled = c.settled; state = c.state };
     }
-other-life r (entry.Start p n manager) k j b life is ne h =
-    let q = other_path p k j is ne in record {
+other-life r (entry.Launch q m) p o b life is ne h =
+    let n = other_path q p o is ne in record {
       reached = h.reached;
       first = h.first;
-      opened = λ t. let a = h.opened t in record { attempts = a.attempts; costs = a.costs; stage = rw q a.stage; last = a.last; unsettled = a.unsettled };
+      joined = h.joined;
+      opened = λ t. let a = h.opened t in record { attempts = rw n a.attempts; costs = a.costs; stage = rw n a.stage; last = rw n a.last; unsettled = a.unsettled };
       closed = λ t. let c = h.closed t in record { settled = c.settled; state = c.state };
     }
-other-life r (entry.Ended p n manager kind) k j b life is ne h =
-    let q = other_path p k j is ne in record {
+other-life r (entry.Start q m manager) p o b life is ne h =
+    let n = other_path q p o is ne in record {
       reached = h.reached;
       first = h.first;
-      opened = λ t. let a = h.opened t in record { attempts = a.attempts; costs = rw q a.costs; stage = rw q a.stage; last = rw q a.last; unsettled = a.unsettled };
+      joined = h.joined;
+      opened = λ t. let a = h.opened t in record { attempts = a.attempts; costs = a.costs; stage = rw n a.stage; last = a.last; unsettled = a.unsettled };
       closed = λ t. let c = h.closed t in record { settled = c.settled; state = c.state };
     }
-other-life r (entry.Settled p s) k j b life is ne h =
-    let q = other_path p k j is ne in record {
+other-life r (entry.Ended q m manager kind) p o b life is ne h =
+    let n = other_path q p o is ne in record {
       reached = h.reached;
       first = h.first;
-      opened = λ t. let a = h.opened t in record { attempts = a.attempts; costs = a.costs; stage = a.stage; last = a.last; unsettled = rw q a.unsettled };
-      closed = λ t. let c = h.closed t in record { settled = rw q c.settled; state = c.state };
+      joined = h.joined;
+      opened = λ t. let a = h.opened t in record { attempts = a.attempts; costs = rw n a.costs; stage = rw n a.stage; last = rw n a.last; unsettled = a.unsettled };
+      closed = λ t. let c = h.closed t in record { settled = c.settled; state = c.state };
     }
-other-life r (entry.Submit p app) k j b life is ne h = absurd is
-other-life r entry.End k j b life is ne h = absurd is
+other-life r (entry.Settled q s) p o b life is ne h =
+    let n = other_path q p o is ne in record {
+      reached = h.reached;
+      first = h.first;
+      joined = h.joined;
+      opened = λ t. let a = h.opened t in record { attempts = a.attempts; costs = a.costs; stage = a.stage; last = a.last; unsettled = rw n a.unsettled };
+      closed = λ t. let c = h.closed t in record { settled = rw n c.settled; state = c.state };
+    }
+other-life r (entry.Submit q app) p o b life is ne h = absurd is
+other-life r entry.End p o b life is ne h = absurd is
 
-pub task-submits : (e : Entry) (k : ℕ) (b : History) → IsOfTask e k → submits (e ∷ b) ≡ submits b
-task-submits (entry.Launch q n) k b is = refl
-task-submits (entry.Start q n manager) k b is = refl
-task-submits (entry.Ended q n manager kind) k b is = refl
-task-submits (entry.Settled q s) k b is = refl
-task-submits (entry.Submit q app) k b is = absurd is
-task-submits entry.End k b is = absurd is
+pub task-submits : (e : Entry) (p : Path) (b : History) → IsOfTask e p → submits (e ∷ b) ≡ submits b
+task-submits (entry.JoinRun q) p b is = refl
+task-submits (entry.Launch q n) p b is = refl
+task-submits (entry.Start q n manager) p b is = refl
+task-submits (entry.Ended q n manager kind) p b is = refl
+task-submits (entry.Settled q s) p b is = refl
+task-submits (entry.Submit q app) p b is = absurd is
+task-submits entry.End p b is = absurd is
 
-pub task-submitted : (e : Entry) (k : ℕ) (b : History) (p : Path) → IsOfTask e k → is_submitted p (e ∷ b) ≡ is_submitted p b
-task-submitted (entry.Launch q n) k b p is = refl
-task-submitted (entry.Start q n manager) k b p is = refl
-task-submitted (entry.Ended q n manager kind) k b p is = refl
-task-submitted (entry.Settled q s) k b p is = refl
-task-submitted (entry.Submit q app) k b p is = absurd is
-task-submitted entry.End k b p is = absurd is
+pub task-submitted : (e : Entry) (p : Path) (b : History) (o : Path) → IsOfTask e p → is_submitted o (e ∷ b) ≡ is_submitted o b
+task-submitted (entry.JoinRun q) p b o is = refl
+task-submitted (entry.Launch q n) p b o is = refl
+task-submitted (entry.Start q n manager) p b o is = refl
+task-submitted (entry.Ended q n manager kind) p b o is = refl
+task-submitted (entry.Settled q s) p b o is = refl
+task-submitted (entry.Submit q app) p b o is = absurd is
+task-submitted entry.End p b o is = absurd is
 
-pub task-ends : (e : Entry) (k : ℕ) (b : History) → IsOfTask e k → has_end (e ∷ b) ≡ has_end b
-task-ends (entry.Launch q n) k b is = refl
-task-ends (entry.Start q n manager) k b is = refl
-task-ends (entry.Ended q n manager kind) k b is = refl
-task-ends (entry.Settled q s) k b is = refl
-task-ends (entry.Submit q app) k b is = absurd is
-task-ends entry.End k b is = absurd is
+pub task-ends : (e : Entry) (p : Path) (b : History) → IsOfTask e p → has_end (e ∷ b) ≡ has_end b
+task-ends (entry.JoinRun q) p b is = refl
+task-ends (entry.Launch q n) p b is = refl
+task-ends (entry.Start q n manager) p b is = refl
+task-ends (entry.Ended q n manager kind) p b is = refl
+task-ends (entry.Settled q s) p b is = refl
+task-ends (entry.Submit q app) p b is = absurd is
+task-ends entry.End p b is = absurd is
 
 -- a submission and the end change nothing of a task's life
 pub submit-life : (r : Retries) (q : Path) (app : Text) (p : Path) (b : History) (life : Life) → IsLife r p b life → IsLife r p (entry.Submit q app ∷ b) life
 submit-life r q app p b life h = record {
   reached = h.reached;
   first = h.first;
+  joined = h.joined;
   opened = λ t. let a = h.opened t in record { attempts = a.attempts; costs = a.costs; stage = a.stage; last = a.last; unsettled = a.unsettled };
   closed = λ t. let c = h.closed t in record { settled = c.settled; state = c.state };
 }
@@ -101,6 +125,7 @@ pub end-life : (r : Retries) (p : Path) (b : History) (life : Life) → IsLife r
 end-life r p b life h = record {
   reached = h.reached;
   first = h.first;
+  joined = h.joined;
   opened = λ t. let a = h.opened t in record { attempts = a.attempts; costs = a.costs; stage = a.stage; last = a.last; unsettled = a.unsettled };
   closed = λ t. let c = h.closed t in record { settled = c.settled; state = c.state };
 }
@@ -116,6 +141,7 @@ settled-stays (entry.Start q n manager) p b h = h
 settled-stays (entry.Ended q n manager kind) p b h = h
 settled-stays (entry.Settled q s) p b h = some_if (bytes_eq p q) s (settled p b) h
 settled-stays (entry.Submit q app) p b h = h
+settled-stays (entry.JoinRun q) p b h = h
 settled-stays entry.End p b h = h
 
 pub waits-stay : (e : Entry) (acts : List MainEvent) (b : History) → WaitsSettled acts b → WaitsSettled acts (e ∷ b)

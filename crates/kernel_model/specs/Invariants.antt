@@ -1,79 +1,29 @@
--- What a kernel keeps.
-use Rattle.std.specs.Prelude.{◌≡◌, ℕ, ◌+◌, ◌<◌, ◌≤◌, ◌^◌, Bool, true, false, List, [], ◌∷◌, length, map, Option, Some, None, IsSome, slice_get, ℤ, nat_lt}
-use Rattle.std.specs.List.{list_all}
+-- What a kernel keeps to.
+use Rattle.std.specs.Prelude.{◌≡◌, ◌≢◌, ℕ, ◌+◌, ◌<◌, ◌≤◌, true, false, List, [], ◌∷◌, length, Option, Some, None, IsSome, is_some, slice_get, Result}
 use Rattle.flow_base.specs.declared.value.Value.{Value}
-use Rattle.flow_base.specs.declared.value.Value.TheVariants as v
-use Rattle.flow_base.specs.declared.outcome.FileOut.{FileOut}
+use Rattle.flow_base.specs.declared.outcome.Ending.{Ending}
+use Rattle.flow_base.specs.declared.outcome.Ending.TheVariants as ending
+use Rattle.flow_base.specs.declared.outcome.Exception.{Exception}
 use Rattle.flow_base.specs.declared.outcome.Outcome.{Outcome}
-use Rattle.flow_base.specs.declared.outcome.Outcome.TheVariants as o
-use Rattle.small_tree.specs.declared.small.SmallApp.{SmallApp}
-use Rattle.small_tree.specs.Small.{tree_of}
+use Rattle.script_tree.specs.declared.tree.AppDef.{AppDef}
 use Rattle.task_record.specs.declared.status.Status.{Status}
 use Rattle.task_record.specs.declared.status.Status.TheVariants as status
 use Rattle.task_record.specs.States.{is_settled}
+use Rattle.flow_meaning.specs.Act.{Act, Give, Throw, Ask}
 use Rattle.flow_meaning.specs.Inputs.{Path}
-use Rattle.flow_meaning.specs.Evaluations.{name_in}
-use Rattle.flow_meaning.specs.Sequential.{Tasks, outcome_at, outcome_of, main_ran, main_answer, perform}
+use Rattle.flow_meaning.specs.Meaning.{Done}
+use Rattle.flow_meaning.specs.Sequential.{Made, outcome_at, perform, main_answer}
+use Rattle.flow_meaning.specs.Evaluations.{no_losses}
 use Rattle.history_laws.specs.declared.table.MainEvent.{MainEvent}
 use Rattle.history_laws.specs.declared.table.MainEvent.TheVariants as act
-use Rattle.history_laws.specs.declared.table.Expected.{Expected}
 use Rattle.history_laws.specs.declared.table.Retries.{Retries}
-use Rattle.history_laws.specs.declared.table.Table.{Table}
-use Rattle.history_laws.specs.Reads.{History, submits, is_submitted, settled, launches, stage, last_try, Stage, Unlaunched, Waiting, Running, Over, costs, cost, has_end, lost}
-use Rattle.history_laws.specs.Tables.{task_at, calls_in, waits_before, acts_of, status_of, expected}
+use Rattle.call_rules.specs.Calls.{Losses, Call, child, Attempts, Joins, calls_below, awaits, call_outcome, join_dry}
+use Rattle.history_laws.specs.Reads.{History, submits, is_submitted, has_joined, due, settled, launches, stage, last_try, Stage, Unlaunched, Waiting, Running, Over, costs, cost, has_end, lost}
+use Rattle.history_laws.specs.Tables.{calls_in, acts_of, status_of, is_join, table}
 use Rattle.history_laws.specs.Legal.{IsLegal}
-use Rattle.small_meaning.specs.Calls.{Argument}
-use Rattle.small_meaning.specs.Plan.{is_sound, is_sound_main, takes}
-use Rattle.small_meaning.specs.Calls as argument
-use Rattle.small_meaning.specs.Steps.{value_of_argument}
-use Rattle.kernel_model.specs.Known.{Known, Call, Life, no_retries, path_of, call_at, life_at, status_at, settled_outcome, inputs_at, task_of, known, end_at, word_of, Losses, rule_in, main_at, main_left, is_main_over, IsDone, apps_in}
-
--- ---- paths of settled tasks
-
--- each of these tasks is settled
-abbrev pub AllKnown : Tasks → List Path → Type 0
-AllKnown ts [] = Unit {0}
-AllKnown ts (p ∷ ps) = IsSome (outcome_at ts p) × AllKnown ts ps
-
-abbrev pub IsValue : Option Outcome → Type 0
-IsValue (Some (o.Value value files)) = Unit {0}
-IsValue _ = ⊥
-
--- each of these tasks has a value
-abbrev pub AllValues : Tasks → List Path → Type 0
-AllValues ts [] = Unit {0}
-AllValues ts (p ∷ ps) = IsValue (outcome_at ts p) × AllValues ts ps
-
--- each of these is the path of an earlier call
-pub record IsBelow (k : ℕ) (p : Path) : Type 0 where
-  pub number : ℕ
-  pub is : p ≡ path_of number
-  pub below : number < k
-
-abbrev pub AreBelow : ℕ → List Path → Type 0
-AreBelow k [] = Unit {0}
-AreBelow k (p ∷ ps) = IsBelow k p × AreBelow k ps
-
--- ---- calls of a small script
-
--- an Int, or the future of an earlier call
-abbrev pub is_within : ℕ → Argument → Bool
-is_within n (argument.Number z) = true
-is_within n (argument.Result k) = nat_lt k n
-
--- an app that is there, on as many arguments as it takes, each an Int or the future of an earlier call
-pub record IsSmallCall (apps : List SmallApp) (k : ℕ) (c : Call) : Type 0 where
-  pub arguments : List Argument
-  pub given : c.arguments ≡ map value_of_argument arguments
-  pub within : list_all (is_within k) arguments ≡ true
-  pub enough : takes (slice_get apps c.app) (length arguments) ≡ true
-  pub no_names : c.names ≡ []
-
--- an Int, and no files
-pub record IsInt (value : Value) (files : List FileOut) : Type 0 where
-  pub int : ℤ
-  pub is : value ≡ v.Int int
-  pub no_files : files ≡ []
+use Rattle.call_rules.specs.Groups.{AllKnown, HasTask, IsGroup}
+use Rattle.call_rules.specs.Told.{Asks, IsTold, whole_ran, whole}
+use Rattle.kernel_model.specs.Known.{Known, Life, no_life, no_retries, call_at, path_at, life_at, status_at, settled_outcome, inputs_at, known, begin_at, word_of, main_rule, main_left, printed_in, apps_in, IsDone}
 
 -- ---- tasks and their history
 
@@ -95,17 +45,18 @@ abbrev pub last_cost : Retries → Status → Option Outcome → ℕ
 last_cost r status.RunningEnded (Some outcome) = cost r (word_of outcome)
 last_cost r _ end = 0
 
--- a state that the tasks of a small script may have
-abbrev pub IsReached : Status → Option Outcome → Type 0
-IsReached status.Unsched end = Unit {0}
-IsReached status.Pending end = Unit {0}
-IsReached status.Launched end = Unit {0}
-IsReached status.Running end = Unit {0}
-IsReached status.RunningEnded end = IsSome end
-IsReached status.ExecDone end = IsSome end
-IsReached status.Failed end = IsSome end
-IsReached status.DepFail end = IsSome end
-IsReached _ end = ⊥
+-- a state that tasks may have
+abbrev pub IsReached : Life → Status → Type 0
+IsReached life status.Unsched = life.ran ≡ None
+IsReached life status.Pending = life.ran ≡ None
+IsReached life status.Launched = life.ran ≡ None
+IsReached life status.Running = life.ran ≡ None
+IsReached life status.RunningEnded = IsSome life.end × (life.ran ≡ None)
+IsReached life status.Joining = IsSome life.ran
+IsReached life status.ExecDone = IsSome life.end
+IsReached life status.Failed = IsSome life.end
+IsReached life status.DepFail = IsSome life.end
+IsReached life _ = ⊥
 
 -- a task without an outcome is what the history says of it
 pub record IsOpen (r : Retries) (p : Path) (b : History) (life : Life) : Type 0 where
@@ -121,8 +72,9 @@ pub record IsClosed (p : Path) (b : History) (life : Life) : Type 0 where
   pub state : (outcome : Outcome) → life.end ≡ Some outcome → life.status ≡ status_of outcome
 
 pub record IsLife (r : Retries) (p : Path) (b : History) (life : Life) : Type 0 where
-  pub reached : IsReached life.status life.end
+  pub reached : IsReached life life.status
   pub first : life.status ≡ status.Pending → life.attempts ≡ 0
+  pub joined : has_joined p b ≡ is_some life.ran
   pub opened : is_settled life.status ≡ false → IsOpen r p b life
   pub closed : is_settled life.status ≡ true → IsClosed p b life
 
@@ -132,42 +84,45 @@ HasRun status.Running = Unit {0}
 HasRun status.RunningEnded = Unit {0}
 HasRun _ = ⊥
 
+-- a call that is there
+pub record IsCall (w : Known) (c : Call) : Type 0 where
+  pub place : ℕ
+  pub within : place < length w.calls
+  pub is : call_at w place ≡ c
+
+-- a call is main's, or one of a join whose body ran
+pub data IsOf (w : Known) (k : ℕ) : Type 0 where
+  of_main : (i : ℕ) → i < submits w.past → path_at w k ≡ child [] i → IsOf w k
+  of_join : (j i : ℕ) → j < length w.calls → IsSome (life_at w j).ran → path_at w k ≡ child (path_at w j) i → IsOf w k
+
+-- the join whose calls are being submitted, so many of them so far
+pub record IsDue (w : Known) (p : Path) (n : ℕ) : Type 0 where
+  pub place : ℕ
+  pub within : place < length w.calls
+  pub is : p ≡ path_at w place
+  pub ran : IsSome (life_at w place).ran
+  pub fresh : (k i : ℕ) → k < length w.calls → path_at w k ≡ child p i → i < n
+
 -- ---- evaluation
 
--- a settled task has the outcome that the rule of a call gives, under these losses, by the outcomes of its inputs
+-- a settled task has the outcome that its rule gives, under these losses, by what is known
 pub record FitsAt (losses : Losses) (w : Known) (k : ℕ) (outcome : Outcome) : Type 0 where
   pub inputs : AllKnown (known w) (inputs_at w k)
-  pub by_rule : outcome ≡ (rule_in losses w (path_of k) (call_at w k).app (call_at w k).arguments (call_at w k).names (known w)).outcome
+  pub awaited : AllKnown (known w) (awaits (apps_in w) (known w) (call_at w k))
+  pub by_rule : outcome ≡ call_outcome (apps_in w) losses (known w) (call_at w k)
 
 -- every settled task fits the losses
-abbrev pub Fits : Losses → Known → Type 0
-Fits losses w = (k : ℕ) (outcome : Outcome) → settled_outcome w k ≡ Some outcome → FitsAt losses w k outcome
+abbrev pub FitsLosses : Losses → Known → Type 0
+FitsLosses losses w = (k : ℕ) (outcome : Outcome) → settled_outcome w k ≡ Some outcome → FitsAt losses w k outcome
 
--- the task of the k-th call, as its known inputs give it; its outcome is left aside
-abbrev pub expected_at : Known → ℕ → Outcome → Expected
-expected_at w k outcome = expected (apps_in w) (known w) (task_of k (call_at w k) outcome)
-
--- a table says of a call what the kernel knows of it
-pub record KnowsCall (w : Known) (z : Table) (k : ℕ) : Type 0 where
-  pub task : Expected
-  pub is : task_at z (path_of k) ≡ Some task
-  pub app : task.app ≡ name_in (slice_get (apps_in w) (call_at w k).app)
-  pub inputs : task.inputs ≡ inputs_at w k
-  pub state : (outcome : Outcome) → settled_outcome w k ≡ Some outcome → task.status ≡ status_of outcome
-  pub runs : (outcome : Outcome) → AllKnown (known w) (inputs_at w k) → task.runs ≡ (expected_at w k outcome).runs
-  pub kind : (outcome : Outcome) → AllKnown (known w) (inputs_at w k) → task.kind ≡ (expected_at w k outcome).kind
-
--- where main is over the table has no other tasks
-pub record KnowsAll (w : Known) (z : Table) : Type 0 where
-  pub count : calls_in z.acts ≡ length w.calls
-  pub below : (p : Path) → IsSome (task_at z p) → IsBelow (length w.calls) p
-
--- a table that agrees with all that the kernel knows
-pub record Knows (w : Known) (z : Table) : Type 0 where
-  pub count : length w.calls ≤ calls_in z.acts
-  pub call : (k : ℕ) → k < length w.calls → KnowsCall w z k
-  pub waits : (k : ℕ) → k < length w.calls → waits_before k z.acts ≡ waits_before k (acts_of w.acts)
-  pub over : is_main_over w ≡ true → KnowsAll w z
+-- The evaluation goes on with what is left of main, has a task for each call, and has the outcomes that are known.
+pub record FollowsEvaluation (losses : Losses) (w : Known) : Type 0 where
+  pub made : Made
+  pub count : made.calls ≡ submits w.past
+  pub group : IsGroup (apps_in w) losses [] made
+  pub goes_on : whole_ran w.tree losses ≡ perform (main_answer (main_rule w losses)) (main_left w) (record { made = made; acts = w.acts; printed = printed_in w.acts })
+  pub placed : (k : ℕ) → k < length w.calls → HasTask (whole w.tree losses) (call_at w k)
+  pub agrees : (k : ℕ) (outcome : Outcome) → settled_outcome w k ≡ Some outcome → outcome_at (whole w.tree losses) (path_at w k) ≡ Some outcome
 
 -- what main waited for has settled
 abbrev pub WaitsSettled : List MainEvent → History → Type 0
@@ -175,46 +130,90 @@ WaitsSettled [] b = Unit {0}
 WaitsSettled (act.Call ∷ acts) b = WaitsSettled acts b
 WaitsSettled (act.Wait p ∷ acts) b = IsSome (settled p b) × WaitsSettled acts b
 
--- ---- the whole
+-- main ended so
+abbrev pub EndsSo : Ending → Act Done → Type 0
+EndsSo e (Give d) = e ≡ ending.Ended
+EndsSo e (Throw exception) = e ≡ ending.Raised exception
+EndsSo e (Ask wanted go) = ⊥
 
-pub record Inv (w : Known) : Type 0 where
-  -- the script
-  pub sound : is_sound w.script ≡ true
-  pub few : length w.script.main < 2 ^ 32
-  pub bound : length w.calls + length w.rest ≤ length w.script.main
-  pub mains : is_sound_main w.script.apps w.variables w.rest ≡ true
-  pub variables : length w.variables ≡ length w.calls
-  -- the tasks are what the history says
+-- ---- the parts of the whole
+
+-- the tasks are what the history says
+pub record Tracks (w : Known) : Type 0 where
   pub lives : length w.lives ≡ length w.calls
-  pub count : submits w.past ≡ length w.calls
-  pub there : (k : ℕ) → k < length w.calls → is_submitted (path_of k) w.past ≡ true
-  pub tracks : (k : ℕ) → IsLife no_retries (path_of k) w.past (life_at w k)
+  pub distinct : (j k : ℕ) → j < length w.calls → k < length w.calls → path_at w j ≡ path_at w k → j ≡ k
+  pub there : (k : ℕ) → k < length w.calls → is_submitted (path_at w k) w.past ≡ true
+  pub lived : (k : ℕ) → k < length w.calls → IsLife no_retries (path_at w k) w.past (life_at w k)
+  pub none : (p : Path) → ((k : ℕ) → k < length w.calls → path_at w k ≢ p) → IsLife no_retries p w.past no_life
   pub begun : (k : ℕ) → k < length w.calls → status_at w k ≡ status.Unsched → ⊥
-  -- calls and values are those of a small script
-  pub small : (k : ℕ) → k < length w.calls → IsSmallCall w.script.apps k (call_at w k)
-  pub ints : (k : ℕ) (value : Value) (files : List FileOut) → settled_outcome w k ≡ Some (o.Value value files) → IsInt value files
-  -- what was launched had the values of its inputs, and what ended is what its body gives
-  pub ready : (k : ℕ) → HasRun (status_at w k) → AllValues (known w) (inputs_at w k)
-  pub ended : (k : ℕ) (outcome : Outcome) → status_at w k ≡ status.RunningEnded → (life_at w k).end ≡ Some outcome → outcome ≡ outcome_of (end_at w k)
-  -- main's acts
-  pub called : calls_in (acts_of w.acts) ≡ length w.calls
+  pub family : (k : ℕ) → k < length w.calls → IsOf w k
+
+-- an attempt of a task that gets its outcome by attempts
+pub record IsAttempted (w : Known) (k : ℕ) : Type 0 where
+  pub inputs : AllKnown (known w) (inputs_at w k)
+  pub app : AppDef
+  pub values : List Value
+  pub begins : begin_at w k ≡ Attempts app values
+
+-- what was launched had the values of its inputs, and what ended is what its body gives
+pub record Runs (w : Known) : Type 0 where
+  pub attempted : (k : ℕ) → HasRun (status_at w k) → IsAttempted w k
+  pub ended : (k : ℕ) (outcome : Outcome) → status_at w k ≡ status.RunningEnded → (life_at w k).end ≡ Some outcome → outcome ≡ call_outcome (apps_in w) no_losses (known w) (call_at w k)
+
+-- a join whose body ran on the values of its inputs, and whose calls are there, those aside that are still due
+pub record IsJoined (w : Known) (k : ℕ) (result : Result Done Exception) : Type 0 where
+  pub inputs : AllKnown (known w) (inputs_at w k)
+  pub app : AppDef
+  pub values : List Value
+  pub begins : begin_at w k ≡ Joins app values
+  pub gave : result ≡ (join_dry (apps_in w) (path_at w k) app values).0
+  pub children : (i : ℕ) (c : Call) → slice_get (join_dry (apps_in w) (path_at w k) app values).1 i ≡ Some c → ((n : ℕ) → due w.past ≡ Some (path_at w k, n) → i < n) → IsCall w c
+
+pub record JoinsRan (w : Known) : Type 0 where
+  pub ran : (k : ℕ) (result : Result Done Exception) → (life_at w k).ran ≡ Some result → IsJoined w k result
+  -- a join is settled after its body ran
+  pub settled : (k : ℕ) (outcome : Outcome) → settled_outcome w k ≡ Some outcome → is_join (begin_at w k) ≡ true → IsSome (life_at w k).ran
+  pub is_due : (p : Path) (n : ℕ) → due w.past ≡ Some (p, n) → IsDue w p n
+
+-- main's calls and acts
+pub record MainDid (w : Known) : Type 0 where
+  pub asks : Asks [] (submits w.past) (main_left w)
+  pub mains : (i : ℕ) → i < submits w.past → (k : ℕ) × (k < length w.calls) × (path_at w k ≡ child [] i)
+  pub called : calls_in (acts_of w.acts) ≡ submits w.past
   pub waits : WaitsSettled (acts_of w.acts) w.past
+  pub ended : (e : Ending) → w.ending ≡ Some e → EndsSo e (main_left w)
+
+-- the history is legal, and its outcomes are those of the evaluation
+pub record IsRight (w : Known) : Type 0 where
   -- what has settled fits the losses of the history
-  pub fits : Fits (lost w.past) w
-  -- under all losses that the settled tasks fit, the evaluation goes on with what is left of main
-  pub goes_on : (losses : Losses) → Fits losses w → main_ran (apps_in w) (tree_of w.script).1 losses ≡ perform (main_answer (rule_in losses w)) (main_left w) (main_at losses w)
-  -- for all tables that agree with what is known, the history is legal
-  pub legal : (z : Table) → Knows w z → IsLegal no_retries z w.past
+  pub fits : FitsLosses (lost w.past) w
+  pub evaluates : (losses : Losses) → FitsLosses losses w → FollowsEvaluation losses w
+  pub legal : (losses : Losses) → FitsLosses losses w → IsLegal no_retries (table w.tree losses) w.past
   -- nothing is left behind the end
   pub ends : has_end w.past ≡ true → IsDone w
+
+-- it holds between the entries of a turn too
+pub record IsConsistent (w : Known) : Type 0 where
+  pub told : IsTold w.tree
+  pub tracks : Tracks w
+  pub runs : Runs w
+  pub joins : JoinsRan w
+  pub main : MainDid w
+  pub right : IsRight w
+
+-- no call of a join is still to be submitted
+abbrev pub IsQuiet : Known → Type 0
+IsQuiet w = (k n : ℕ) → k < length w.calls → due w.past ≡ Some (path_at w k, n) → length (calls_below (apps_in w) (known w) (call_at w k)) ≤ n
+
+pub record Inv (w : Known) : Type 0 where
+  pub holds : IsConsistent w
+  pub quiet : IsQuiet w
 
 -- ---- growth
 
 -- what no act takes back
-pub record Grows (w v : Known) : Type 0 where
-  pub script : v.script ≡ w.script
+pub record GrowsInto (w v : Known) : Type 0 where
+  pub tree : v.tree ≡ w.tree
   pub outcome : (k : ℕ) (outcome : Outcome) → settled_outcome w k ≡ Some outcome → settled_outcome v k ≡ Some outcome
   pub calls : length w.calls ≤ length v.calls
   pub call : (k : ℕ) → k < length w.calls → call_at v k ≡ call_at w k
-  pub waits : (k : ℕ) → k < length w.calls → waits_before k (acts_of v.acts) ≡ waits_before k (acts_of w.acts)
-  pub over : is_main_over w ≡ true → (is_main_over v ≡ true) × (length v.calls ≡ length w.calls)

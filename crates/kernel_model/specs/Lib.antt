@@ -6,3 +6,5 @@ pub mod Turns
 pub mod Conditions
 pub mod Evaluated
 pub mod Work
+pub mod Limits
+pub mod PlainScripts

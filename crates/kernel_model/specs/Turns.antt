@@ -1,31 +1,34 @@
 -- What each turn of a kernel answers, and what it does.
-use Rattle.std.specs.Prelude.{◌≡◌, ◌≢◌, ℕ, Bool, true, false, List, [], ◌∷◌, ◌++◌, Option, Some, None, slice_get}
-use Rattle.flow_base.specs.declared.value.Value.{Value}
+use Rattle.std.specs.Prelude.{◌≡◌, ◌≢◌, ℕ, Bool, true, false, List, [], ◌∷◌, ◌++◌, Option, Some, None, slice_get, Result}
+use Rattle.flow_base.specs.declared.value.Value.{Value, out-Value}
 use Rattle.flow_base.specs.declared.outcome.Ended.{Ended}
 use Rattle.flow_base.specs.declared.outcome.Ended.TheVariants as ended
+use Rattle.flow_base.specs.declared.outcome.Ending.TheVariants as ending
+use Rattle.flow_base.specs.declared.outcome.Ending.{Ending}
 use Rattle.flow_base.specs.declared.outcome.Outcome.{Outcome}
 use Rattle.flow_base.specs.declared.outcome.Outcome.TheVariants as o
 use Rattle.flow_base.specs.declared.outcome.Exception.{Exception}
 use Rattle.flow_base.specs.declared.outcome.Exception.TheVariants as x
 use Rattle.script_tree.specs.declared.tree.AppDef.{AppDef}
-use Rattle.small_tree.specs.declared.small.SmallStatement.{SmallStatement}
-use Rattle.small_tree.specs.declared.small.SmallStatement.TheVariants as small
 use Rattle.task_record.specs.declared.status.Status.TheVariants as status
 use Rattle.event_log.specs.declared.entry.Entry.{Entry}
+use Rattle.flow_meaning.specs.declared.walk.Request.{Request}
+use Rattle.flow_meaning.specs.declared.walk.Request.TheVariants as request
+use Rattle.flow_meaning.specs.declared.walk.Answer.TheVariants as answer
+use Rattle.flow_meaning.specs.Act.{Act, Give, Throw, Ask}
+use Rattle.flow_meaning.specs.Meaning.{Done}
+use Rattle.flow_meaning.specs.Inputs.{Path, path_in}
 use Rattle.flow_meaning.specs.Operators.{Text}
-use Rattle.flow_meaning.specs.Sequential.{apply, resolved, outcome_of}
-use Rattle.dependency_graph.specs.declared.readiness.Readiness.{Readiness}
-use Rattle.dependency_graph.specs.declared.readiness.Readiness.TheVariants as readiness
-use Rattle.dependency_graph.specs.Readiness.{ready}
-use Rattle.small_meaning.specs.Plan.{place_of}
+use Rattle.flow_meaning.specs.Sequential.{apply, resolved, outcome_of, outcome_at, join_outcome}
+use Rattle.call_rules.specs.Calls.{Begin, Fails, Attempts, Joins, join_dry, awaited}
 use Rattle.kernel_model.specs.declared.answers.ScriptTurn.{ScriptTurn}
 use Rattle.kernel_model.specs.declared.answers.ScriptTurn.TheVariants as turn
 use Rattle.kernel_model.specs.declared.answers.Delivered.{Delivered}
 use Rattle.kernel_model.specs.declared.answers.Delivered.TheVariants.{Taken, Stale}
 use Rattle.kernel_model.specs.Jobs.{JobView, DoneView}
-use Rattle.kernel_model.specs.Known.{Known, path_of, call_at, life_at, status_at, settled_outcome, inputs_at, known, IsDone}
-use Rattle.kernel_model.specs.Invariants.{AllKnown}
-use Rattle.kernel_model.specs.Acts.{call_of, submitted, printed, raised_by, launched, started, finished, settled_as, over}
+use Rattle.kernel_model.specs.Known.{Known, call_at, path_at, life_at, status_at, inputs_at, known, begin_at, apps_in, main_left, IsDone}
+use Rattle.kernel_model.specs.Acts.{answered, call_of, called, waited, printed, checkpointed, arrived_at, main_ended, launched, started, finished, settled_as, joined, over}
+use Rattle.call_rules.specs.Groups.{AllKnown}
 
 -- ---- main
 
@@ -33,53 +36,74 @@ use Rattle.kernel_model.specs.Acts.{call_of, submitted, printed, raised_by, laun
 abbrev pub Step : Type 0
 Step = ScriptTurn × Known
 
--- main goes on with the outcome that it waits for
-abbrev pub with_outcome : Known → ℕ → List SmallStatement → Option Outcome → Step
-with_outcome w k rest None = (turn.Waiting (path_of k), w)
-with_outcome w k rest (Some (o.Value value files)) = (turn.Advanced, printed w k value rest)
-with_outcome w k rest (Some (o.Failed exception)) = (turn.Advanced, raised_by w k exception)
+-- main stands at the wait for an unsettled path: an earlier turn came to it, or this one does
+abbrev pub unsettled_step : Known → Path → Bool → Step
+unsettled_step w p true = (turn.Waiting p, w)
+unsettled_step w p false = (turn.Advanced, arrived_at w)
 
--- main's next statement
-abbrev pub statement_step : Known → List SmallStatement → Step
-statement_step w [] = (turn.Over, w)
-statement_step w (small.Call variable app arguments ∷ rest) = (turn.Advanced, submitted w variable (call_of w.script w.variables app arguments) rest)
-statement_step w (small.Print variable ∷ rest) = with_outcome w (place_of w.variables variable) rest (settled_outcome w (place_of w.variables variable))
+abbrev pub outcome_step : Known → Path → Option Outcome → Step
+outcome_step w p None = unsettled_step w p w.arrived
+outcome_step w p (Some outcome) = (turn.Advanced, waited w p outcome)
 
-abbrev pub unless_raised : Option Exception → Known → Step → Step
-unless_raised None w step = step
-unless_raised (Some exception) w step = (turn.Over, w)
+-- what is no future isn't waited for
+abbrev pub wait_step : Known → List Path → Step
+wait_step w [] = (turn.Advanced, answered w answer.Go [])
+wait_step w (p ∷ ps) = outcome_step w p (outcome_at (known w) p)
+
+abbrev pub request_step : Known → Request → Step
+request_step w (request.Call app arguments names) = (turn.Advanced, called w (call_of w app arguments names))
+request_step w (request.WaitValue f) = wait_step w (path_in (out-Value f))
+request_step w (request.WaitName f) = wait_step w (path_in (out-Value f))
+request_step w (request.Print value) = (turn.Advanced, printed w value)
+request_step w request.Checkpoint = (turn.Advanced, checkpointed w)
+
+abbrev pub act_step : Known → Act Done → Step
+act_step w (Give d) = (turn.Advanced, main_ended w ending.Ended)
+act_step w (Throw exception) = (turn.Advanced, main_ended w (ending.Raised exception))
+act_step w (Ask wanted go) = request_step w wanted
+
+abbrev pub unless_ended : Option Ending → Known → Step → Step
+unless_ended None w step = step
+unless_ended (Some e) w step = (turn.Over, w)
 
 abbrev pub script_step : Known → Step
-script_step w = unless_raised w.raised w (statement_step w w.rest)
+script_step w = unless_ended w.ending w (act_step w (main_left w))
 
 -- ---- callbacks
 
--- a submitted task without an attempt or an outcome, whose inputs are all settled
+-- a submitted task that has not begun, whose inputs are all settled
 pub record IsCallback (w : Known) (k : ℕ) : Type 0 where
   pub pending : status_at w k ≡ status.Pending
   pub inputs : AllKnown (known w) (inputs_at w k)
 
--- it is settled by one of the first three rules, or launched
-abbrev pub carried_out : Known → ℕ → Readiness → Known
-carried_out w k (readiness.Settles exception) = settled_as w k (o.Failed exception)
-carried_out w k (readiness.Runs values) = launched w k
+-- it is settled by one of the first three rules or for its depth, launched, or its body runs
+abbrev pub carried_out : Known → ℕ → Begin → Known
+carried_out w k (Fails exception) = settled_as w k (o.Failed exception)
+carried_out w k (Attempts app values) = launched w k
+carried_out w k (Joins app values) = joined w k (join_dry (apps_in w) (path_at w k) app values)
+
+-- a join whose body ran, and all that it returned has settled
+pub record IsJoinDone (w : Known) (k : ℕ) : Type 0 where
+  pub joining : status_at w k ≡ status.Joining
+  pub result : Result Done Exception
+  pub ran : (life_at w k).ran ≡ Some result
+  pub awaited : AllKnown (known w) (awaited result)
 
 -- one callback is carried out, or there is none
-pub record CarriesOut (w v : Known) : Type 0 where
-  pub task : ℕ
-  pub callback : IsCallback w task
-  pub after : v ≡ carried_out w task (ready (known w) (call_at w task).arguments)
+pub data CarriesOut (w v : Known) : Type 0 where
+  begins : (k : ℕ) → IsCallback w k → v ≡ carried_out w k (begin_at w k) → CarriesOut w v
+  ends : (k : ℕ) (is : IsJoinDone w k) → v ≡ settled_as w k (join_outcome (known w) is.result) → CarriesOut w v
 
 abbrev pub CallbackTurn : Known → Bool → Known → Type 0
 CallbackTurn w true v = CarriesOut w v
-CallbackTurn w false v = ((k : ℕ) → IsCallback w k → ⊥) × (v ≡ w)
+CallbackTurn w false v = ((k : ℕ) → IsCallback w k → ⊥) × ((k : ℕ) → IsJoinDone w k → ⊥) × (v ≡ w)
 
 -- ---- attempts
 
 -- the job of a task's last attempt
 abbrev pub job_of : Known → ℕ → JobView
 job_of w k = record {
-  path = path_of k;
+  path = path_at w k;
   attempt = (life_at w k).attempts;
   manager = 1;
   app = (call_at w k).app;
@@ -145,4 +169,4 @@ EndTurn w false v = (IsDone w → ⊥) × (v ≡ w)
 pub record Extends (w v : Known) : Type 0 where
   pub added : List Entry
   pub past : v.past ≡ added ++ w.past
-  pub script : v.script ≡ w.script
+  pub tree : v.tree ≡ w.tree

@@ -11,7 +11,7 @@ use history_laws::{Expected, MainEvent, Retries, Table};
 use history_verdict::verdict::verdict;
 use kernel_core::{Kernel, Ledger, Opening, Refusal, ScriptTurn};
 use parsl_engine::run_attempt;
-use parsl_engine::script::{is_small, read_script};
+use parsl_engine::script::{is_plain_script, read_script};
 use run_report::head;
 use script_tree::checked::Checked;
 use sqlite_items::Items as ListOf;
@@ -91,10 +91,10 @@ fn run(alloc: Global, script: Checked, order: Order) -> Result<Given, AllocError
     })
 }
 
-fn run_small(alloc: Global, script: Checked, order: Order) -> Result<Given, AllocError>
+fn run_plain(alloc: Global, script: Checked, order: Order) -> Result<Given, AllocError>
     requires { IsOfText script }
 {
-    if is_small(alloc, &script)? {
+    if is_plain_script(&script) {
         return run(alloc, script, order);
     }
     Err(AllocError)
@@ -102,7 +102,7 @@ fn run_small(alloc: Global, script: Checked, order: Order) -> Result<Given, Allo
 
 fn run_diamond(alloc: Global, order: Order) -> Result<Given, AllocError> {
     match read_script(alloc, DIAMOND) {
-        Ok(script) => run_small(alloc, script, order),
+        Ok(script) => run_plain(alloc, script, order),
         Err(_) => Err(AllocError),
     }
 }
@@ -128,6 +128,9 @@ fn expected(alloc: Global, number: u32, inputs: &[u32]) -> Result<Expected, Allo
         app: Text::of(alloc, "add")?,
         inputs: paths_of(alloc, inputs)?,
         runs: true,
+        joins: false,
+        calls: 0,
+        awaits: Paths::new(alloc),
         kind: Text::of(alloc, "value")?,
         status: Status::ExecDone,
     })

@@ -8,17 +8,29 @@ use Rattle.script_tree.specs.declared.tree.Atom.{Atom}
 use Rattle.script_tree.specs.declared.tree.Atom.TheVariants as atom
 use Rattle.script_tree.specs.declared.tree.Post.{roll-Post}
 use Rattle.script_tree.specs.declared.tree.Unary.{Unary, roll-Unary}
-use Rattle.script_tree.specs.declared.tree.Term.{roll-Term}
+use Rattle.script_tree.specs.declared.tree.Term.{Term, roll-Term}
 use Rattle.script_tree.specs.declared.tree.Factor.{roll-Factor}
-use Rattle.script_tree.specs.declared.tree.Sum.{roll-Sum}
+use Rattle.script_tree.specs.declared.tree.Sum.{Sum, roll-Sum}
 use Rattle.script_tree.specs.declared.tree.Added.{roll-Added}
-use Rattle.script_tree.specs.declared.tree.Expr.{Expr}
+use Rattle.script_tree.specs.declared.tree.Expr.{Expr, roll-Expr}
 use Rattle.script_tree.specs.declared.tree.CallExpr.{CallExpr, roll-CallExpr}
 use Rattle.script_tree.specs.declared.tree.Statement.{Statement}
 use Rattle.script_tree.specs.declared.tree.Statement.TheVariants as statement
 use Rattle.script_tree.specs.declared.tree.Block.{Block, roll-Block}
 use Rattle.script_tree.specs.declared.tree.AppDef.{AppDef}
-use Rattle.small_tree.specs.Small.{term_of, expr_of, alone}
+use Rattle.script_tree.specs.declared.tree.Comp.{roll-Comp}
+use Rattle.script_tree.specs.declared.tree.Conj.{roll-Conj}
+
+-- ---- an atom alone, and a sum alone, as expressions
+
+abbrev pub term_of : Atom → Term
+term_of a = roll-Term (record { first = roll-Unary (record { op = None; post = roll-Post (record { atom = a; indices = [] }) }); others = [] })
+
+abbrev pub expr_of : Sum → Expr
+expr_of s = roll-Expr (record { first = roll-Conj (record { first = roll-Comp (record { left = s; test = None }); others = [] }); others = [] })
+
+abbrev pub alone : Atom → Expr
+alone a = expr_of (roll-Sum (record { first = term_of a; others = [] }))
 
 abbrev pub Name : Type 0
 Name = List ℕ

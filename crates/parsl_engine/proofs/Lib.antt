@@ -1,7 +1,8 @@
-mod Sound
-mod Refusals
-pub mod Outputs
 mod Lines
+mod Refusals
 mod Courses
-mod Attempts
 mod Turning
+mod Stopping
+mod Attempts
+mod Opening
+mod Outputs

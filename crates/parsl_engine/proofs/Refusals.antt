@@ -1,5 +1,5 @@
 -- A script's bytes have one refusal, or an output.
-use Rattle.std.proofs.Common.{◌≡◌, ◌⊎◌, inl, inr, ℕ, suc, ◌<◌, ◌≤◌, List, [], ◌∷◌, ◌++◌, map, get_or, nat_eq, if◌then◌else◌, refl, sym, ◌∙◌, ap, subst, arith}
+use Rattle.std.proofs.Common.{◌≡◌, ◌⊎◌, inl, inr, ℕ, suc, ◌<◌, ◌≤◌, Bool, None, Some, List, [], ◌∷◌, ◌++◌, map, get_or, nat_eq, if◌then◌else◌, refl, sym, ◌∙◌, ap, subst, arith}
 use Rattle.std.specs.Prelude.{Contains}
 use Rattle.script_tree.specs.declared.tree.AppDef.{AppDef}
 use Rattle.script_tree.specs.declared.body_kind.BodyKind.TheVariants.{OfMain}
@@ -14,8 +14,12 @@ use Rattle.parsl_engine.specs.declared.words.Command.{Command}
 use Rattle.parsl_engine.specs.declared.words.Command.TheVariants as command
 use Rattle.parsl_engine.specs.declared.script.ScriptRefusal.{ScriptRefusal}
 use Rattle.parsl_engine.specs.declared.script.ScriptRefusal.TheVariants.{Parse, Check, NotYet}
-use Rattle.parsl_engine.specs.Scripts.{IsCheckedText, BreaksRule, IsFaulty}
-use Rattle.parsl_engine.specs.Output.{CanRun, Prints, IsNotYet, Refuses}
+use Rattle.stored_units.specs.declared.units.Limit.{Limit}
+use Rattle.stored_units.specs.declared.units.Limit.TheVariants as limit
+use Rattle.stored_units.specs.Totals.{limit_met, IsWithinLimits}
+use Rattle.parsl_engine.specs.Scripts.{IsCheckedText, BreaksRule, IsFaulty, IsPlainScript}
+use Rattle.parsl_engine.specs.Runs.{without_losses, PassesLimit}
+use Rattle.parsl_engine.specs.Output.{Prints, IsNotYet, Refuses, Limits}
 
 -- ---- a script that breaks no rule has no fault, wherever its tokens stand
 
@@ -108,6 +112,9 @@ cause : (c : Command) (bytes : List ℕ) (r : ScriptRefusal) → Refuses c bytes
 cause command.Run bytes (Parse kind place) h = inl h
 cause command.Run bytes (Check kind place) h = inl h
 cause command.Run bytes NotYet h = inr (refl, h)
+cause command.Seq bytes (Parse kind place) h = inl h
+cause command.Seq bytes (Check kind place) h = inl h
+cause command.Seq bytes NotYet h = inr (refl, h)
 cause command.Check bytes (Parse kind place) h = inl h
 cause command.Check bytes (Check kind place) h = inl h
 cause command.Check bytes NotYet h = absurd h
@@ -129,13 +136,43 @@ one_refusal c bytes a b p q = one_cause bytes a b (cause c bytes a p) (cause c b
 same_script : (bytes : List ℕ) (s t : PlacedTree) → IsCheckedText bytes s → IsCheckedText bytes t → s ≡ t
 same_script bytes s t a b = b.text.only s a.text.has
 
-pub not_refused : (c : Command) (bytes output : List ℕ) (r : ScriptRefusal) → Prints c bytes output → Refuses c bytes r → ⊥
-not_refused command.Run bytes output NotYet p n = n.cannot_run (subst CanRun (same_script bytes p.script n.script p.text n.text) p.prints.can_run)
-not_refused command.Run bytes output (Parse kind place) p h = right_faultless bytes p.script (Parse kind place) p.text h
-not_refused command.Run bytes output (Check kind place) p h = right_faultless bytes p.script (Check kind place) p.text h
-not_refused command.Check bytes output NotYet p h = h
-not_refused command.Check bytes output (Parse kind place) p h = right_faultless bytes p.script (Parse kind place) p.text h
-not_refused command.Check bytes output (Check kind place) p h = right_faultless bytes p.script (Check kind place) p.text h
-not_refused command.Format bytes output NotYet p h = h
-not_refused command.Format bytes output (Parse kind place) p h = right_faultless bytes p.script (Parse kind place) p.text h
-not_refused command.Format bytes output (Check kind place) p h = right_faultless bytes p.script (Check kind place) p.text h
+not_plain : (bytes : List ℕ) (s : PlacedTree) → IsCheckedText bytes s → IsPlainScript s.tree → IsNotYet bytes → ⊥
+not_plain bytes s text plain n = n.not_plain (subst (λ (p : PlacedTree). IsPlainScript p.tree) (same_script bytes s n.script text n.text) plain)
+
+pub not_refused : (c : Command) (bytes output : List ℕ) (raised : Bool) (r : ScriptRefusal) → Prints c bytes output raised → Refuses c bytes r → ⊥
+not_refused command.Run bytes output raised NotYet p n = not_plain bytes p.script p.text p.prints.plain n
+not_refused command.Run bytes output raised (Parse kind place) p h = right_faultless bytes p.script (Parse kind place) p.text h
+not_refused command.Run bytes output raised (Check kind place) p h = right_faultless bytes p.script (Check kind place) p.text h
+not_refused command.Seq bytes output raised NotYet p n = not_plain bytes p.script p.text p.prints.plain n
+not_refused command.Seq bytes output raised (Parse kind place) p h = right_faultless bytes p.script (Parse kind place) p.text h
+not_refused command.Seq bytes output raised (Check kind place) p h = right_faultless bytes p.script (Check kind place) p.text h
+not_refused command.Check bytes output raised NotYet p h = h
+not_refused command.Check bytes output raised (Parse kind place) p h = right_faultless bytes p.script (Parse kind place) p.text h
+not_refused command.Check bytes output raised (Check kind place) p h = right_faultless bytes p.script (Check kind place) p.text h
+not_refused command.Format bytes output raised NotYet p h = h
+not_refused command.Format bytes output raised (Parse kind place) p h = right_faultless bytes p.script (Parse kind place) p.text h
+not_refused command.Format bytes output raised (Check kind place) p h = right_faultless bytes p.script (Check kind place) p.text h
+
+-- ---- what passes a limit has no output, and isn't refused
+
+within_passes : (tree : Tree) (l : Limit) → IsWithinLimits (without_losses tree) → PassesLimit tree l → ⊥
+within_passes tree limit.Tasks within passes = let few = within.few in absurd (omega (arith, few, passes))
+within_passes tree limit.Stored within passes = let small = within.small in absurd (omega (arith, small, passes))
+
+none_met : (tree : Tree) (l : Limit) → limit_met (without_losses tree) ≡ None → limit_met (without_losses tree) ≡ Some l → ⊥
+none_met tree l none met = absurd (let bad : Some l ≡ None = sym met ∙ none in cc)
+
+pub not_limited : (c : Command) (bytes output : List ℕ) (raised : Bool) (l : Limit) → Prints c bytes output raised → Limits c bytes l → ⊥
+not_limited command.Run bytes output raised l p h =
+    within_passes p.script.tree l p.prints.within (subst (λ (s : PlacedTree). PassesLimit s.tree l) (same_script bytes h.script p.script h.text p.text) h.passes)
+not_limited command.Seq bytes output raised l p h =
+    none_met p.script.tree l p.prints.within (subst (λ (s : PlacedTree). limit_met (without_losses s.tree) ≡ Some l) (same_script bytes h.script p.script h.text p.text) h.passes)
+not_limited command.Check bytes output raised l p h = h.passes
+not_limited command.Format bytes output raised l p h = h.passes
+
+by_cause : (bytes : List ℕ) (r : ScriptRefusal) (s : PlacedTree) → IsCheckedText bytes s → IsPlainScript s.tree → Cause bytes r → ⊥
+by_cause bytes r s text plain (inl f) = right_faultless bytes s r text f
+by_cause bytes r s text plain (inr n) = not_plain bytes s text plain n.1
+
+pub limited_not_refused : (c : Command) (bytes : List ℕ) (l : Limit) (r : ScriptRefusal) → Limits c bytes l → Refuses c bytes r → ⊥
+limited_not_refused c bytes l r h f = by_cause bytes r h.script h.text h.plain (cause c bytes r f)

@@ -9,11 +9,13 @@ use Rattle.flow_base.specs.declared.shelf.CallKind.TheVariants.{Read}
 use Rattle.script_tree.specs.Faults.{syntax_number, rule_number}
 use Rattle.script_tree.specs.Grammar.{max_text}
 use Rattle.parsl_engine.specs.declared.exit.Exit.{Exit}
-use Rattle.parsl_engine.specs.declared.exit.Exit.TheVariants.{Done, Refused, Unread, Unwritten, NoMemory}
+use Rattle.parsl_engine.specs.declared.exit.Exit.TheVariants.{Done, Raised, Refused, Unread, Unwritten, Limited, NoMemory}
 use Rattle.parsl_engine.specs.declared.script.ScriptRefusal.{ScriptRefusal}
 use Rattle.parsl_engine.specs.declared.script.ScriptRefusal.TheVariants.{Parse, Check, NotYet}
 use Rattle.parsl_engine.specs.declared.words.Command.{Command}
-use Rattle.parsl_engine.specs.Output.{Prints, Refuses}
+use Rattle.stored_units.specs.declared.units.Limit.{Limit}
+use Rattle.stored_units.specs.declared.units.Limit.TheVariants as limit
+use Rattle.parsl_engine.specs.Output.{Prints, Refuses, Limits}
 use Rattle.parsl_engine.specs.Words.{Meaning}
 
 -- ---- statuses and lines
@@ -33,6 +35,10 @@ refusal_line (Parse kind place) = fault_line (codes "parsl: script: parse ") (sy
 refusal_line (Check kind place) = fault_line (codes "parsl: script: check ") (rule_number kind) place
 refusal_line NotYet = codes "parsl: script: not yet" ++ newline
 
+abbrev pub limit_line : Limit → List ℕ
+limit_line limit.Tasks = codes "parsl: task limit 100000" ++ newline
+limit_line limit.Stored = codes "parsl: store limit 16777216" ++ newline
+
 abbrev pub read_line : List ℕ → List ℕ
 read_line name = codes "parsl: read: " ++ name ++ newline
 
@@ -44,17 +50,21 @@ memory_line = codes "parsl: memory" ++ newline
 
 abbrev pub status_of : Exit → ℕ
 status_of Done = 0
+status_of Raised = 1
 status_of (Refused refusal) = 3
 status_of Unread = 6
 status_of Unwritten = 7
+status_of (Limited l) = 10
 status_of NoMemory = 12
 
 -- the line of a call that names this script
 abbrev pub line_of : List ℕ → Exit → List ℕ
 line_of name Done = []
+line_of name Raised = []
 line_of name (Refused refusal) = refusal_line refusal
 line_of name Unread = read_line name
 line_of name Unwritten = write_line
+line_of name (Limited l) = limit_line l
 line_of name NoMemory = memory_line
 
 -- ---- the shelf
@@ -88,29 +98,43 @@ pub record AddsCalls (expected : List (CallKind × List ℕ)) (old new : ShelfSt
 -- what was written of a command's output for a script's bytes: all, a part, or nothing
 pub record WritesPart (c : Command) (bytes : List ℕ) (tells : Bool) (out out' : SinkState) : Type 0 where
   pub output : List ℕ
-  pub prints : Prints c bytes output
+  pub raised : Bool
+  pub prints : Prints c bytes output raised
   pub part : AddsPart tells out out' output
 
-pub record WritesWhole (c : Command) (bytes : List ℕ) (tells : Bool) (out out' : SinkState) : Type 0 where
+-- all of it, where an exception ended main or not
+pub record WritesWhole (c : Command) (bytes : List ℕ) (raised : Bool) (tells : Bool) (out out' : SinkState) : Type 0 where
   pub output : List ℕ
-  pub prints : Prints c bytes output
+  pub prints : Prints c bytes output raised
   pub whole : Adds tells out out' output
 
 -- how the printing of a command's output ends
 abbrev pub Printed : Command → List ℕ → Exit → Bool → SinkState → SinkState → Type 0
-Printed c bytes Done tells out out' = WritesWhole c bytes tells out out'
+Printed c bytes Done tells out out' = WritesWhole c bytes false tells out out'
+Printed c bytes Raised tells out out' = WritesWhole c bytes true tells out out'
 Printed c bytes (Refused refusal) tells out out' = Refuses c bytes refusal × (out' ≡ out)
 Printed c bytes Unread tells out out' = ⊥
 Printed c bytes Unwritten tells out out' = WritesPart c bytes tells out out' × Rose out.faults out'.faults
+Printed c bytes (Limited l) tells out out' = Limits c bytes l × (out' ≡ out)
 Printed c bytes NoMemory tells out out' = out' ≡ out
+
+-- a limit ends the command
+abbrev pub IsLimited : Exit → Type 0
+IsLimited (Limited l) = Unit {0}
+IsLimited _ = ⊥
 
 -- what an exit says where the script's bytes are these
 pub record Answers (c : Command) (bytes : List ℕ) (exit : Exit) (tells : Bool) (out out' : SinkState) : Type 0 where
-  -- the command's output, whole
-  pub done : exit ≡ Done → WritesWhole c bytes tells out out'
+  -- the command's output, whole, where main ended without an exception
+  pub done : exit ≡ Done → WritesWhole c bytes false tells out out'
+  -- or by one
+  pub raised : exit ≡ Raised → WritesWhole c bytes true tells out out'
   -- refused exactly where there is a cause, but for want of memory, and for that cause
   pub refused : (refusal : ScriptRefusal) → exit ≡ Refused refusal → Refuses c bytes refusal
   pub causes : (refusal : ScriptRefusal) → Refuses c bytes refusal → (exit ≡ Refused refusal) ⊎ (exit ≡ NoMemory)
+  -- limited exactly where the evaluation passes a limit, but for want of memory, and by one that it passes
+  pub limited : (l : Limit) → exit ≡ Limited l → Limits c bytes l
+  pub limits : (l : Limit) → Limits c bytes l → IsLimited exit ⊎ (exit ≡ NoMemory)
   -- a fault of out
   pub unwritten : exit ≡ Unwritten → Rose out.faults out'.faults
   -- for reads alone
@@ -135,7 +159,7 @@ pub record Course (c : Command) (name : List ℕ) (exit : Exit) (shelf_tells out
   -- that read and no other, where it gave the bytes
   pub one_read : IfSome given (λ bytes. IsTrue shelf_tells → shelf'.calls ≡ shelf.calls ++ read_of name ∷ [])
 
--- an order is carried out: the status and the line are those of an exit: 0, 3, 6, 7 or 12
+-- an order is carried out: the status and the line are those of an exit: 0, 1, 3, 6, 7, 10 or 12
 pub record Carries (m : Meaning) (status : ℕ) (shelf_tells out_tells err_tells : Bool) (shelf shelf' : ShelfState) (out out' err err' : SinkState) : Type 0 where
   pub exit : Exit
   pub status_is : status ≡ status_of exit

@@ -1,102 +1,132 @@
 -- What each command prints for the bytes of a script, and when it refuses them.
-use Rattle.std.specs.Prelude.{◌≡◌, ℕ, ◌++◌, ◌∷◌, [], Bool, true, false, List, Vec, Ok, Err, codes}
-use Rattle.std.specs.List.{list_all}
+use Rattle.std.specs.Prelude.{◌≡◌, ℕ, ◌++◌, ◌∷◌, [], Bool, true, false, List, Ok, Err, None, Some, codes}
 use Rattle.std.specs.declared.result.Result.{Result}
-use Rattle.std.specs.declared.alloc.Global.{Global}
 use Rattle.std.specs.declared.alloc.AllocError.{AllocError}
+use Rattle.flow_base.specs.declared.outcome.Ending.{Ending}
+use Rattle.flow_base.specs.declared.outcome.Ending.TheVariants as ending
 use Rattle.flow_base.specs.declared.outcome.Evaluation.{Evaluation}
-use Rattle.flow_base.specs.declared.outcome.Outcome.{Outcome}
-use Rattle.flow_base.specs.declared.outcome.Outcome.TheVariants as o
-use Rattle.flow_base.specs.declared.outcome.TaskEnd.{TaskEnd}
 use Rattle.event_log.specs.declared.entry.Entry.{Entry}
 use Rattle.script_tree.specs.Canonical.{canonical}
 use Rattle.script_tree.specs.Grammar.{PlacedTree}
-use Rattle.small_tree.specs.Small.{IsSmall}
-use Rattle.flow_meaning.specs.Evaluations.{evaluation, IsInRange}
+use Rattle.flow_meaning.specs.Evaluations.{evaluation}
 use Rattle.run_report.specs.Reported.{report_text}
+use Rattle.run_report.specs.Shown.{head_text}
+use Rattle.stored_units.specs.declared.units.Limit.{Limit}
+use Rattle.stored_units.specs.declared.units.Limit.TheVariants as limit
+use Rattle.stored_units.specs.Totals.{limit_met, IsWithinLimits}
+use Rattle.kernel_model.specs.declared.answers.Refusal.TheVariants as refusal
+use Rattle.parsl_engine.specs.declared.output.Output.{Output}
 use Rattle.parsl_engine.specs.declared.words.Command.{Command}
 use Rattle.parsl_engine.specs.declared.words.Command.TheVariants as command
 use Rattle.parsl_engine.specs.declared.script.ScriptRefusal.{ScriptRefusal}
 use Rattle.parsl_engine.specs.declared.script.ScriptRefusal.TheVariants.{NotYet}
 use Rattle.parsl_engine.specs.declared.script.ScriptFault.{ScriptFault}
-use Rattle.parsl_engine.specs.declared.script.ScriptFault.TheVariants.{Refused, NoMemory}
+use Rattle.parsl_engine.specs.declared.script.ScriptFault.TheVariants.{Refused, Limited, NoMemory}
 use Rattle.parsl_engine.specs.declared.run.PartEnd.{PartEnd}
 use Rattle.parsl_engine.specs.declared.run.PartEnd.TheVariants.{Ended, Refused as run_refused}
 use Rattle.parsl_engine.specs.declared.run.RunEnd.{RunEnd}
-use Rattle.parsl_engine.specs.Runs.{IsWholeLog}
-use Rattle.parsl_engine.specs.Scripts.{IsCheckedText, IsFaulty}
+use Rattle.parsl_engine.specs.Runs.{IsWholeLog, without_losses, PassesLimit}
+use Rattle.parsl_engine.specs.Scripts.{IsCheckedText, IsFaulty, IsPlainScript}
 
--- the script is small, and no sum of its evaluation leaves 64 bits
-pub record CanRun (script : PlacedTree) : Type 0 where
-  pub small : IsSmall script.tree
-  pub in_range : IsInRange script.tree
+-- ---- what is printed
 
--- the output of a run of the script is its report: of its sequential evaluation, and of a legal and complete log
-pub record Reports (script : PlacedTree) (output : List ℕ) : Type 0 where
-  pub can_run : CanRun script
+-- an exception ended main
+abbrev pub is_raised : Ending → Bool
+is_raised ending.Ended = false
+is_raised (ending.Raised exception) = true
+
+-- The output of a run is the report of the script's sequential evaluation, which is within the limits, and of a
+-- legal and complete log.
+pub record Reports (script : PlacedTree) (output : List ℕ) (raised : Bool) : Type 0 where
+  pub plain : IsPlainScript script.tree
+  pub within : IsWithinLimits (without_losses script.tree)
   pub log : List Entry
   pub whole : IsWholeLog script.tree log
   pub report : output ≡ report_text (evaluation script.tree) log
+  pub raised_is : raised ≡ is_raised (evaluation script.tree).main
+
+-- the head of the script's sequential evaluation, which meets no limit
+pub record Heads (script : PlacedTree) (output : List ℕ) (raised : Bool) : Type 0 where
+  pub plain : IsPlainScript script.tree
+  pub within : limit_met (without_losses script.tree) ≡ None
+  pub head : output ≡ head_text (evaluation script.tree)
+  pub raised_is : raised ≡ is_raised (evaluation script.tree).main
 
 abbrev pub ok_line : List ℕ
 ok_line = codes "ok" ++ 10 ∷ []
 
--- what a command prints for a script that breaks no rule
-abbrev pub PrintsFor : Command → PlacedTree → List ℕ → Type 0
-PrintsFor command.Run script output = Reports script output
-PrintsFor command.Check script output = output ≡ ok_line
-PrintsFor command.Format script output = output ≡ canonical script.tree
+-- what a command prints for a script that breaks no rule, and whether an exception ended main
+abbrev pub PrintsFor : Command → PlacedTree → List ℕ → Bool → Type 0
+PrintsFor command.Run script output raised = Reports script output raised
+PrintsFor command.Seq script output raised = Heads script output raised
+PrintsFor command.Check script output raised = (output ≡ ok_line) × (raised ≡ false)
+PrintsFor command.Format script output raised = (output ≡ canonical script.tree) × (raised ≡ false)
 
 -- what a command prints for the bytes of a script
-pub record Prints (c : Command) (bytes output : List ℕ) : Type 0 where
+pub record Prints (c : Command) (bytes output : List ℕ) (raised : Bool) : Type 0 where
   pub script : PlacedTree
   pub text : IsCheckedText bytes script
-  pub prints : PrintsFor c script output
+  pub prints : PrintsFor c script output raised
 
--- the bytes are a text of a script that breaks no rule, and can't be run yet
+-- ---- what is refused
+
+-- the bytes are a text of a script that breaks no rule, and has a cached or a join app
 pub record IsNotYet (bytes : List ℕ) : Type 0 where
   pub script : PlacedTree
   pub text : IsCheckedText bytes script
-  pub cannot_run : CanRun script → ⊥
+  pub not_plain : IsPlainScript script.tree → ⊥
 
 -- the bytes of a script are refused for this
 abbrev pub Refuses : Command → List ℕ → ScriptRefusal → Type 0
 Refuses command.Run bytes NotYet = IsNotYet bytes
+Refuses command.Seq bytes NotYet = IsNotYet bytes
 Refuses c bytes refusal = IsFaulty bytes refusal
 
-abbrev pub Produces : Command → List ℕ → Result (Vec ℕ Global) ScriptFault → Type 0
-Produces c bytes (Ok output) = Prints c bytes output.items
+-- The evaluation passes the limit: as a whole in a run, whose tasks end in any order, and first of the two where it
+-- is made in order.
+abbrev pub LimitsFor : Command → PlacedTree → Limit → Type 0
+LimitsFor command.Run script l = PassesLimit script.tree l
+LimitsFor command.Seq script l = limit_met (without_losses script.tree) ≡ Some l
+LimitsFor c script l = ⊥
+
+-- the bytes are a text of a script without cached and join apps, and its evaluation passes the limit
+pub record Limits (c : Command) (bytes : List ℕ) (l : Limit) : Type 0 where
+  pub script : PlacedTree
+  pub text : IsCheckedText bytes script
+  pub plain : IsPlainScript script.tree
+  pub passes : LimitsFor c script l
+
+-- ---- outputs
+
+abbrev pub Produces : Command → List ℕ → Result Output ScriptFault → Type 0
+Produces c bytes (Ok output) = Prints c bytes output.text.items output.raised
 Produces c bytes (Err (Refused refusal)) = Refuses c bytes refusal
+Produces c bytes (Err (Limited l)) = Limits c bytes l
 Produces c bytes (Err NoMemory) = Unit {0}
 
--- what a command gives for a script that breaks no rule
-abbrev pub Gives : Command → PlacedTree → Result (Vec ℕ Global) ScriptFault → Type 0
-Gives c script (Ok output) = PrintsFor c script output.items
-Gives command.Run script (Err (Refused NotYet)) = CanRun script → ⊥
+-- what a command gives for a script that breaks no rule, where the command may refuse it
+abbrev pub Gives : Command → PlacedTree → Result Output ScriptFault → Type 0
+Gives c script (Ok output) = PrintsFor c script output.text.items output.raised
+Gives c script (Err (Refused NotYet)) = IsPlainScript script.tree → ⊥
 Gives c script (Err (Refused refusal)) = ⊥
+Gives c script (Err (Limited l)) = IsPlainScript script.tree × LimitsFor c script l
 Gives c script (Err NoMemory) = Unit {0}
 
 -- ---- the report of a run
 
-abbrev pub is_value : Outcome → Bool
-is_value (o.Value value files) = true
-is_value (o.Failed exception) = false
-
-abbrev pub has_value : TaskEnd → Bool
-has_value task = is_value task.outcome
-
--- the report of an evaluation and a log where each task has a value; not yet where one failed
-abbrev pub ReportsOn : Evaluation → List Entry → Result (Vec ℕ Global) ScriptFault → Type 0
-ReportsOn e log (Ok text) = (list_all has_value e.tasks ≡ true) × (text.items ≡ report_text e log)
-ReportsOn e log (Err (Refused NotYet)) = list_all has_value e.tasks ≡ false
-ReportsOn e log (Err (Refused refusal)) = ⊥
+-- the report of this evaluation and this log
+abbrev pub ReportsOn : Evaluation → List Entry → Result Output ScriptFault → Type 0
+ReportsOn e log (Ok output) = (output.text.items ≡ report_text e log) × (output.raised ≡ is_raised e.main)
 ReportsOn e log (Err NoMemory) = Unit {0}
+ReportsOn e log (Err fault) = ⊥
 
--- the report of a run that ended; where memory was refused to the run, it is wanting here too
-abbrev pub TellsEnd : PartEnd → Result Evaluation AllocError → List Entry → Result (Vec ℕ Global) ScriptFault → Type 0
+-- the report of a run that ended; what refused the run, refuses the output
+abbrev pub TellsEnd : PartEnd → Result Evaluation AllocError → List Entry → Result Output ScriptFault → Type 0
 TellsEnd Ended (Ok e) log told = ReportsOn e log told
 TellsEnd Ended (Err fault) log told = told ≡ Err NoMemory
-TellsEnd (run_refused refusal) gave log told = told ≡ Err NoMemory
+TellsEnd (run_refused refusal.NoMemory) gave log told = told ≡ Err NoMemory
+TellsEnd (run_refused refusal.TaskLimit) gave log told = told ≡ Err (Limited limit.Tasks)
+TellsEnd (run_refused refusal.StoreLimit) gave log told = told ≡ Err (Limited limit.Stored)
 
-abbrev pub Tells : RunEnd → Result (Vec ℕ Global) ScriptFault → Type 0
+abbrev pub Tells : RunEnd → Result Output ScriptFault → Type 0
 Tells run told = TellsEnd run.end run.evaluation run.history told

@@ -1,38 +1,67 @@
 -- What a whole run gives.
-use Rattle.std.specs.Prelude.{◌≡◌, Bool, true, false, List, IfOk}
+use Rattle.std.specs.Prelude.{◌≡◌, ◌<◌, Bool, true, false, List, length, IfOk}
 use Rattle.script_tree.specs.Grammar.{Tree}
 use Rattle.event_log.specs.declared.entry.Entry.{Entry}
-use Rattle.flow_meaning.specs.Evaluations.{evaluation}
+use Rattle.flow_meaning.specs.Evaluations.{evaluation, no_losses}
+use Rattle.flow_meaning.specs.Sequential.{Sequential, seq}
 use Rattle.history_laws.specs.Reads.{history_of, has_end}
 use Rattle.history_laws.specs.Legal.{IsLegalLog, IsComplete}
+use Rattle.stored_units.specs.declared.units.Limit.{Limit}
+use Rattle.stored_units.specs.declared.units.Limit.TheVariants as limit
+use Rattle.stored_units.specs.Stored.{max_tasks, max_stored}
+use Rattle.stored_units.specs.Totals.{total_units, IsWithinLimits}
+use Rattle.kernel_model.specs.declared.answers.Refusal.{Refusal}
+use Rattle.kernel_model.specs.declared.answers.Refusal.TheVariants as refusal
 use Rattle.kernel_model.specs.Known.{no_retries}
 use Rattle.parsl_engine.specs.declared.run.PartEnd.{PartEnd}
 use Rattle.parsl_engine.specs.declared.run.PartEnd.TheVariants.{Ended, Refused}
 use Rattle.parsl_engine.specs.declared.run.RunEnd.{RunEnd}
+
+-- the sequential evaluation of a script without losses
+abbrev pub without_losses : Tree → Sequential
+without_losses tree = seq tree.0 tree.1 no_losses
 
 -- a legal and complete log of this script
 pub record IsWholeLog (tree : Tree) (log : List Entry) : Type 0 where
   pub legal : IsLegalLog tree no_retries log
   pub complete : IsComplete (history_of log)
 
--- a run that ended has a legal and complete log, and gives the sequential evaluation of its script
+-- a run that ended has a legal and complete log, and gives the sequential evaluation of its script, which is within the limits
 pub record HasRun (tree : Tree) (r : RunEnd) : Type 0 where
   pub log : IsWholeLog tree r.history
   pub gives : IfOk r.evaluation (λ e. e ≡ evaluation tree)
+  pub within : IsWithinLimits (without_losses tree)
 
--- the log of a run that was refused is legal as far as it goes, and has no end
-pub record IsCutShort (tree : Tree) (log : List Entry) : Type 0 where
+-- the evaluation has more calls, or stores more units, than a run may
+abbrev pub PassesLimit : Tree → Limit → Type 0
+PassesLimit tree limit.Tasks = max_tasks < length (without_losses tree).tasks
+PassesLimit tree limit.Stored = max_stored < total_units (without_losses tree)
+
+-- what a refusal of a turn says of the script
+abbrev pub RefusesFor : Tree → Refusal → Type 0
+RefusesFor tree refusal.NoMemory = Unit {0}
+RefusesFor tree refusal.TaskLimit = PassesLimit tree limit.Tasks
+RefusesFor tree refusal.StoreLimit = PassesLimit tree limit.Stored
+
+-- the log of a run that was refused is legal as far as it goes, and has no end; and the refusal has its cause
+pub record IsCutShort (tree : Tree) (log : List Entry) (r : Refusal) : Type 0 where
   pub legal : IsLegalLog tree no_retries log
   pub unended : has_end (history_of log) ≡ false
+  pub cause : RefusesFor tree r
 
 abbrev pub Goes : Tree → RunEnd → PartEnd → Type 0
 Goes tree r Ended = HasRun tree r
-Goes tree r (Refused refusal) = IsCutShort tree r.history
+Goes tree r (Refused refused) = IsCutShort tree r.history refused
 
 -- whether the end stands
 abbrev pub is_ended : PartEnd → Bool
 is_ended Ended = true
-is_ended (Refused refusal) = false
+is_ended (Refused refused) = false
+
+-- what the refusal of a run says of the script
+abbrev pub EndsFor : Tree → PartEnd → Type 0
+EndsFor tree Ended = Unit {0}
+EndsFor tree (Refused refused) = RefusesFor tree refused
 
 abbrev pub IsRun : Tree → RunEnd → Type 0
 IsRun tree r = Goes tree r r.end

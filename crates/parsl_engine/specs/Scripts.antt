@@ -1,15 +1,17 @@
 -- What a script's bytes are read as.
-use Rattle.std.specs.Prelude.{ℕ, List, Ok, Err}
+use Rattle.std.specs.Prelude.{◌≡◌, ℕ, Bool, true, not, ◌&&◌, List, Ok, Err}
+use Rattle.std.specs.List.{list_all}
 use Rattle.std.specs.declared.result.Result.{Result}
 use Rattle.script_tree.specs.declared.checked.Checked.{Checked}
 use Rattle.script_tree.specs.declared.fault.Rule.{Rule}
-use Rattle.script_tree.specs.Grammar.{PlacedTree}
+use Rattle.script_tree.specs.declared.tree.AppDef.{AppDef}
+use Rattle.script_tree.specs.Grammar.{Tree, PlacedTree}
 use Rattle.script_tree.specs.Rules.{IsWellFormed, IsCheckFault}
 use Rattle.app_script.specs.Parsing.{IsScriptOf, IsRefusal}
 use Rattle.parsl_engine.specs.declared.script.ScriptRefusal.{ScriptRefusal}
 use Rattle.parsl_engine.specs.declared.script.ScriptRefusal.TheVariants.{Parse, Check, NotYet}
 use Rattle.parsl_engine.specs.declared.script.ScriptFault.{ScriptFault}
-use Rattle.parsl_engine.specs.declared.script.ScriptFault.TheVariants.{Refused, NoMemory}
+use Rattle.parsl_engine.specs.declared.script.ScriptFault.TheVariants.{Refused, Limited, NoMemory}
 
 -- the bytes are a text of this script alone, and it breaks no rule
 pub record IsCheckedText (bytes : List ℕ) (script : PlacedTree) : Type 0 where
@@ -36,4 +38,14 @@ IsFaulty bytes NotYet = ⊥
 abbrev pub IsRead : List ℕ → Result Checked ScriptFault → Type 0
 IsRead bytes (Ok script) = IsCheckedText bytes script
 IsRead bytes (Err (Refused refusal)) = IsFaulty bytes refusal
+IsRead bytes (Err (Limited limit)) = ⊥
 IsRead bytes (Err NoMemory) = Unit {0}
+
+-- ---- scripts that can be run
+
+abbrev pub is_plain_app : AppDef → Bool
+is_plain_app app = not app.cached && not app.join
+
+-- it has neither cached nor join apps
+abbrev pub IsPlainScript : Tree → Type 0
+IsPlainScript tree = list_all is_plain_app tree.0 ≡ true

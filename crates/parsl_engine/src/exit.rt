@@ -3,23 +3,28 @@
 ghost use Rattle.std.specs.Prelude.{◌≡◌, ◌++◌, decimal};
 ghost use Rattle.flow_base.specs.Causes.{HasCause};
 ghost use Rattle.flow_base.specs.Sink.{AddsUnlessFailed};
-ghost use Rattle.parsl_engine.specs.Course.{status_of, line_of, read_line, refusal_line, fault_line};
+ghost use Rattle.parsl_engine.specs.Course.{status_of, line_of, read_line, refusal_line, limit_line, fault_line};
 
 use crate::script::{ScriptFault, ScriptRefusal};
 use flow_base::{Failed, Sink, Word, write_whole};
 use itoa::Buffer;
+use stored_units::Limit;
 
 /// How a command on a script ends.
 #[derive(Clone, Copy, Debug, PartialEq, Eq)]
 pub enum Exit {
-    /// The whole output was written.
+    /// The whole output was written, and main ended without an exception.
     Done,
+    /// The whole output was written, and an exception ended main.
+    Raised,
     /// The script's bytes are no script that the command takes.
     Refused(ScriptRefusal),
     /// The script wasn't read.
     Unread,
     /// The output wasn't written whole.
     Unwritten,
+    /// The script passes this limit of a run.
+    Limited(Limit),
     /// An allocation was refused.
     NoMemory,
 }
@@ -33,6 +38,7 @@ impl From<ScriptFault> for Exit {
     fn from(fault: ScriptFault) -> Exit {
         match fault {
             ScriptFault::Refused(refusal) => Exit::Refused(refusal),
+            ScriptFault::Limited(limit) => Exit::Limited(limit),
             ScriptFault::NoMemory => Exit::NoMemory,
         }
     }
@@ -45,9 +51,11 @@ impl Exit {
     {
         match self {
             Exit::Done => 0,
+            Exit::Raised => 1,
             Exit::Refused(_) => 3,
             Exit::Unread => 6,
             Exit::Unwritten => 7,
+            Exit::Limited(_) => 10,
             Exit::NoMemory => 12,
         }
     }
@@ -57,10 +65,11 @@ impl Exit {
         ensures { AddsUnlessFailed E.tells (E.state err.old) (E.state err.new) (line_of script.now self) }
     {
         match self {
-            Exit::Done => Ok(()),
+            Exit::Done | Exit::Raised => Ok(()),
             Exit::Refused(refusal) => tell_refusal(refusal, err),
             Exit::Unread => tell_unread(script.as_str(), err),
             Exit::Unwritten => write_whole(err, b"parsl: write\n"),
+            Exit::Limited(limit) => tell_limit(limit, err),
             Exit::NoMemory => write_whole(err, b"parsl: memory\n"),
         }
     }
@@ -86,6 +95,15 @@ fn tell_refusal<E: Sink>(refusal: ScriptRefusal, err: &mut E) -> Result<(), Fail
             tell_fault(b"parsl: script: check ", kind.number(), place, err)
         }
         ScriptRefusal::NotYet => write_whole(err, b"parsl: script: not yet\n"),
+    }
+}
+
+fn tell_limit<E: Sink>(limit: Limit, err: &mut E) -> Result<(), Failed>
+    ensures { AddsUnlessFailed E.tells (E.state err.old) (E.state err.new) (limit_line limit) }
+{
+    match limit {
+        Limit::Tasks => write_whole(err, b"parsl: task limit 100000\n"),
+        Limit::Stored => write_whole(err, b"parsl: store limit 16777216\n"),
     }
 }
 

@@ -1,44 +1,61 @@
 //! What a command prints for a script.
 
-ghost use Rattle.std.specs.Prelude.{◌≡◌};
-ghost use Rattle.std.specs.List.{list_all};
+ghost use Rattle.std.specs.Prelude.{◌≡◌, false};
 ghost use Rattle.parsl_engine.specs.Scripts.{IsOfText};
-ghost use Rattle.parsl_engine.specs.Output.{Produces, Gives, Tells, ReportsOn, has_value as is_valued};
-ghost use Rattle.parsl_engine.specs.declared.words.Command.TheVariants.{Run};
+ghost use Rattle.parsl_engine.specs.Output.{Produces, Gives, Tells, is_raised};
+ghost use Rattle.parsl_engine.specs.declared.words.Command.TheVariants.{Run, Seq};
 
 use crate::run::{PartEnd, RunEnd, run_alone};
-use crate::script::{ScriptFault, ScriptRefusal, is_small, read_script};
+use crate::script::{ScriptFault, ScriptRefusal, is_plain_script, read_script};
 use crate::words::Command;
-use event_log::Entry;
-use flow_base::{Evaluation, Outcome, TaskEnd};
+use flow_base::Ending;
 use kernel_core::{Ledger, Opening, Refusal};
-use run_report::report;
+use run_report::{head, report};
+use script_eval::{EvalFault, Losses, evaluate};
 use script_print::print;
 use script_tree::checked::Checked;
 use std::alloc::{AllocError, Global};
 use std::sync::Arc;
+use stored_units::Limit;
+
+/// What a command prints, and whether an exception ended main.
+#[derive(Drop)]
+pub struct Output {
+    pub text: Vec<u8>,
+    pub raised: bool,
+}
 
 /// The output of a command for the script that has this text.
-pub fn output(alloc: Global, command: Command, bytes: &[u8]) -> Result<Vec<u8>, ScriptFault>
+pub fn output_of(alloc: Global, command: Command, bytes: &[u8]) -> Result<Output, ScriptFault>
     ensures { Produces command bytes.now result }
 {
     let script = read_script(alloc, bytes)?;
     match command {
         Command::Run => run_output(alloc, script),
-        Command::Check => Ok(Vec::from_slice(alloc, b"ok\n")?),
+        Command::Seq => head_output(alloc, &script),
+        Command::Check => Ok(text_alone(Vec::from_slice(alloc, b"ok\n")?)),
         Command::Format => {
             let tree = script.script();
-            Ok(print(alloc, tree.apps(), tree.main())?)
+            Ok(text_alone(print(alloc, tree.apps(), tree.main())?))
         }
     }
 }
 
+fn text_alone(text: Vec<u8>) -> Output
+    ensures { result ≡ record { text = text; raised = false } }
+{
+    Output {
+        text,
+        raised: false,
+    }
+}
+
 // The report of a run of the script.
-fn run_output(alloc: Global, script: Checked) -> Result<Vec<u8>, ScriptFault>
+fn run_output(alloc: Global, script: Checked) -> Result<Output, ScriptFault>
     requires { IsOfText script }
     ensures { Gives Run script result }
 {
-    if !is_small(alloc, &script)? {
+    if !is_plain_script(&script) {
         return Err(ScriptFault::Refused(ScriptRefusal::NotYet));
     }
     let Ok(script) = Arc::new(alloc, script) else {
@@ -48,45 +65,45 @@ fn run_output(alloc: Global, script: Checked) -> Result<Vec<u8>, ScriptFault>
     whole_report(alloc, &run)
 }
 
-// The report of a run in which each task has a value.
-fn whole_report(alloc: Global, run: &RunEnd) -> Result<Vec<u8>, ScriptFault>
+// The report of a run that ended.
+fn whole_report(alloc: Global, run: &RunEnd) -> Result<Output, ScriptFault>
     ensures { Tells run.now result }
 {
     match run.end {
         PartEnd::Ended => match &run.evaluation {
-            Ok(evaluation) => report_of(alloc, evaluation, run.history.as_slice()),
+            Ok(evaluation) => Ok(Output {
+                text: report(alloc, evaluation, run.history.as_slice())?,
+                raised: has_raised(&evaluation.main),
+            }),
             Err(AllocError) => Err(ScriptFault::NoMemory),
         },
         PartEnd::Refused(Refusal::NoMemory) => Err(ScriptFault::NoMemory),
+        PartEnd::Refused(Refusal::TaskLimit) => Err(ScriptFault::Limited(Limit::Tasks)),
+        PartEnd::Refused(Refusal::StoreLimit) => Err(ScriptFault::Limited(Limit::Stored)),
     }
 }
 
-// The report of this evaluation and this log, where each task has a value.
-fn report_of(alloc: Global, evaluation: &Evaluation, log: &[Entry]) -> Result<Vec<u8>, ScriptFault>
-    ensures { ReportsOn evaluation.now log.now result }
+// The head of the script's sequential evaluation.
+fn head_output(alloc: Global, script: &Checked) -> Result<Output, ScriptFault>
+    requires { IsOfText script.now }
+    ensures { Gives Seq script.now result }
 {
-    if !have_values(evaluation.tasks.as_slice()) {
+    if !is_plain_script(script) {
         return Err(ScriptFault::Refused(ScriptRefusal::NotYet));
     }
-    Ok(report(alloc, evaluation, log)?)
+    match evaluate(alloc, script, &Losses::new(alloc)) {
+        Ok(evaluation) => Ok(Output {
+            text: head(alloc, &evaluation)?,
+            raised: has_raised(&evaluation.main),
+        }),
+        Err(EvalFault::TaskLimit) => Err(ScriptFault::Limited(Limit::Tasks)),
+        Err(EvalFault::StoreLimit) => Err(ScriptFault::Limited(Limit::Stored)),
+        Err(EvalFault::NoMemory) => Err(ScriptFault::NoMemory),
+    }
 }
 
-fn have_values(tasks: &[TaskEnd]) -> bool
-    ensures { result ≡ list_all is_valued tasks.now }
+fn has_raised(ending: &Ending) -> bool
+    ensures { result ≡ is_raised ending.now }
 {
-    for task in tasks {
-        if !has_value(task) {
-            return false;
-        }
-    }
-    true
-}
-
-fn has_value(task: &TaskEnd) -> bool
-    ensures { result ≡ is_valued task.now }
-{
-    match task.outcome {
-        Outcome::Value { .. } => true,
-        Outcome::Failed(_) => false,
-    }
+    matches!(ending, Ending::Raised(_))
 }

@@ -1,13 +1,12 @@
 //! A whole run on the calling thread.
 
-ghost use Rattle.std.specs.Prelude.{◌≡◌, ◌<◌, false, IfOk, OnOk, OnErr};
+ghost use Rattle.std.specs.Prelude.{◌≡◌, ◌<◌, false, IfOk, IfErr, OnOk, OnErr};
 ghost use Rattle.std.specs.Arc.{arc_value};
-ghost use Rattle.small_tree.specs.Small.{tree_of};
 ghost use Rattle.history_laws.specs.Reads.{has_end};
 ghost use Rattle.kernel_model.specs.Known.{has_ended, status_at};
-ghost use Rattle.kernel_model.specs.Work.{turns_left, NoneRuns};
+ghost use Rattle.kernel_model.specs.Work.{NoneRuns};
 ghost use Rattle.kernel_core.specs.Views.{Opens};
-ghost use Rattle.parsl_engine.specs.Runs.{IsRun, is_ended};
+ghost use Rattle.parsl_engine.specs.Runs.{IsRun, RefusesFor, EndsFor, is_ended};
 ghost use Rattle.parsl_engine.specs.Rounds.{Keeps, AttemptTurn};
 
 use dependency_graph::Monitor;
@@ -34,7 +33,8 @@ pub struct RunEnd {
     pub history: Entries,
 }
 
-/// Runs a small script to its end: turns of main, callbacks, attempts and settlings as they come.
+/// Runs a script without join apps to its end: turns of main, callbacks, attempts and settlings as they
+/// come.
 pub fn run_alone<M: Monitor>(alloc: Global, opening: Opening) -> RunEnd
     requires { Opens (arc_value opening.script).tree }
     ensures { IsRun (arc_value opening.script).tree result }
@@ -52,7 +52,7 @@ pub fn run_alone<M: Monitor>(alloc: Global, opening: Opening) -> RunEnd
 fn run_kernel<M: Monitor>(alloc: Global, mut kernel: Kernel<M>) -> RunEnd
     requires going { has_ended kernel ≡ false }
     requires still { NoneRuns kernel }
-    ensures { IsRun (tree_of kernel.script) result }
+    ensures { IsRun kernel.tree result }
 {
     let end = run_to_end(alloc, &mut kernel);
     kernel.facts();
@@ -67,8 +67,9 @@ fn run_kernel<M: Monitor>(alloc: Global, mut kernel: Kernel<M>) -> RunEnd
 fn run_to_end<M: Monitor>(alloc: Global, kernel: &mut Kernel<M>) -> PartEnd
     requires going { has_ended kernel.old ≡ false }
     requires still { NoneRuns kernel.old }
-    ensures script { kernel.new.script ≡ kernel.old.script }
+    ensures tree { kernel.new.tree ≡ kernel.old.tree }
     ensures ended { has_end kernel.new.past ≡ is_ended result }
+    ensures cause { EndsFor kernel.old.tree result }
 {
     'rounds: while !kernel.ended() {
         if let Err(refusal) = round(alloc, kernel) {
@@ -82,25 +83,33 @@ fn run_to_end<M: Monitor>(alloc: Global, kernel: &mut Kernel<M>) -> PartEnd
 fn round<M: Monitor>(alloc: Global, kernel: &mut Kernel<M>) -> Result<(), Refusal>
     requires going { has_ended kernel.old ≡ false }
     requires still { NoneRuns kernel.old }
-    ensures script { kernel.new.script ≡ kernel.old.script }
+    ensures tree { kernel.new.tree ≡ kernel.old.tree }
     ensures keeps { OnOk result (Keeps kernel.old kernel.new) }
     ensures unended { OnErr result (has_end kernel.new.past ≡ false) }
+    ensures cause { IfErr result (RefusesFor kernel.old.tree) }
 {
     kernel.facts();
     if let ScriptTurn::Advanced = kernel.script_turn()? {
+        kernel.facts();
         return Ok(());
     }
     if kernel.callback_turn()? {
+        kernel.facts();
         return Ok(());
     }
     if run_attempt(alloc, kernel)? {
+        kernel.facts();
         return Ok(());
     }
     if kernel.settle_turn()? {
+        kernel.facts();
         return Ok(());
     }
     match kernel.end_turn()? {
-        true => Ok(()),
+        true => {
+            kernel.facts();
+            Ok(())
+        }
         false => unreachable!(),
     }
 }
@@ -108,14 +117,15 @@ fn round<M: Monitor>(alloc: Global, kernel: &mut Kernel<M>) -> Result<(), Refusa
 /// Fetches a job, evaluates it and delivers its end. False exactly where no attempt waits.
 pub fn run_attempt<M: Monitor>(alloc: Global, kernel: &mut Kernel<M>) -> Result<bool, Refusal>
     requires { has_ended kernel.old ≡ false }
-    ensures script { kernel.new.script ≡ kernel.old.script }
+    ensures tree { kernel.new.tree ≡ kernel.old.tree }
     ensures turn { IfOk result (λ did. AttemptTurn kernel.old did kernel.new) }
     ensures unended { OnErr result (has_end kernel.new.past ≡ false) }
+    ensures memory { IfErr result (λ refusal. refusal ≡ Refusal.NoMemory) }
 {
+    kernel.facts();
     let Some(job) = kernel.fetch()? else {
         return Ok(false);
     };
-    kernel.facts();
     match job.run(alloc, kernel.script()) {
         Ok(done) => {
             kernel.deliver(done);

@@ -1,15 +1,16 @@
 //! Scripts that are read and checked.
 
-ghost use Rattle.std.specs.Prelude.{◌≡◌, ◌↔◌, IfOk, true};
-ghost use Rattle.small_tree.specs.Small.{IsSmall};
-ghost use Rattle.parsl_engine.specs.Scripts.{IsRead};
+ghost use Rattle.std.specs.Prelude.{◌≡◌, IsTrue, ◌↔◌};
+ghost use Rattle.std.specs.List.{list_all};
+ghost use Rattle.parsl_engine.specs.Scripts.{IsRead, IsPlainScript, is_plain_app as is_plain};
 
 use app_check::{CheckFault, check};
 use app_script::parse::{ParseFault, parse};
 use script_tree::checked::Checked;
 use script_tree::fault::{Rule, SyntaxFault};
-use small_scripts::small_script;
+use script_tree::tree::AppDef;
 use std::alloc::{AllocError, Global};
+use stored_units::Limit;
 
 /// Why a command does nothing for a script.
 #[derive(Clone, Copy, Debug, PartialEq, Eq)]
@@ -18,7 +19,7 @@ pub enum ScriptRefusal {
     Parse { kind: SyntaxFault, place: u32 },
     /// The script breaks this rule at this place.
     Check { kind: Rule, place: u32 },
-    /// The script can't be run yet.
+    /// The script has a cached or a join app, and can't be run yet.
     NotYet,
 }
 
@@ -27,6 +28,8 @@ pub enum ScriptRefusal {
 pub enum ScriptFault {
     /// The script's bytes are the cause.
     Refused(ScriptRefusal),
+    /// The script passes this limit of a run.
+    Limited(Limit),
     /// An allocation was refused.
     NoMemory,
 }
@@ -62,10 +65,26 @@ pub fn read_script(alloc: Global, bytes: &[u8]) -> Result<Checked, ScriptFault>
     }
 }
 
-/// Whether it is a small script.
-pub fn is_small(alloc: Global, script: &Checked) -> Result<bool, AllocError>
-    ensures { IfOk result (λ small. (small ≡ true) ↔ IsSmall script.now.tree) }
+/// Whether it has neither cached nor join apps.
+pub fn is_plain_script(script: &Checked) -> bool
+    ensures { IsTrue result ↔ IsPlainScript script.now.tree }
 {
-    let tree = script.script();
-    Ok(small_script(alloc, tree.apps(), tree.main())?.is_some())
+    are_plain_apps(script.script().apps())
+}
+
+fn are_plain_apps(apps: &[AppDef]) -> bool
+    ensures { result ≡ list_all is_plain apps.now }
+{
+    for app in apps {
+        if !is_plain_app(app) {
+            return false;
+        }
+    }
+    true
+}
+
+fn is_plain_app(app: &AppDef) -> bool
+    ensures { result ≡ is_plain app.now }
+{
+    !app.cached && !app.join
 }

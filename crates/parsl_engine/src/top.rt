@@ -6,7 +6,7 @@ ghost use Rattle.parsl_engine.specs.Words.{meaning, is_plain};
 ghost use Rattle.parsl_engine.specs.declared.words.Command.TheVariants.{Run};
 
 use crate::exit::Exit;
-use crate::output::output;
+use crate::output::output_of;
 use crate::words::{Command, Order, read_words};
 use flow_base::{Shelf, ShelfFault, Sink, Words, write_whole};
 use std::alloc::Global;
@@ -21,8 +21,9 @@ const WORDS_REFUSED: u8 = 2;
 fn print<O: Sink>(alloc: Global, command: Command, bytes: &[u8], out: &mut O) -> Exit
     ensures { Printed command bytes.now result O.tells (O.state out.old) (O.state out.new) }
 {
-    match output(alloc, command, bytes) {
-        Ok(text) => match write_whole(out, &text) {
+    match output_of(alloc, command, bytes) {
+        Ok(output) => match write_whole(out, &output.text) {
+            Ok(()) if output.raised => Exit::Raised,
             Ok(()) => Exit::Done,
             Err(_) => Exit::Unwritten,
         },
@@ -41,9 +42,9 @@ fn carry_out<S: Shelf, O: Sink>(alloc: Global, order: Order, shelf: &mut S, out:
     }
 }
 
-/// Carries out an order to run a script, and gives the exit status: 0 done, 3 a script that is
-/// refused, 6 a script that wasn't read, 7 a report that wasn't written, 12 want of memory. Each but
-/// 0 has a line on `err`.
+/// Carries out an order to run a script, and gives the exit status: 0 done, 1 done where an exception
+/// ended main, 3 a script that is refused, 6 a script that wasn't read, 7 a report that wasn't written,
+/// 10 a script that passes a limit of a run, 12 want of memory. Each but 0 and 1 has a line on `err`.
 pub fn run_top<S: Shelf, O: Sink, E: Sink>(
     alloc: Global,
     order: Order,
@@ -57,9 +58,9 @@ pub fn run_top<S: Shelf, O: Sink, E: Sink>(
     carry_out(alloc, order, shelf, out).finish(order.script, err)
 }
 
-/// Carries out an order of a command that waits for nobody, and returns the exit status: 0 done, 3 a
-/// script that is refused, 6 a script that wasn't read, 7 an output that wasn't written, 12 want of
-/// memory. Each but 0 has a line on `err`.
+/// Carries out an order of a command that waits for nobody, and returns the exit status, as `run_top`
+/// has them. Status 1 comes where an exception ended main in the evaluation; `check` and `format` have
+/// neither 1 nor 10.
 pub fn plain_top<S: Shelf, O: Sink, E: Sink>(
     alloc: Global,
     order: Order,
@@ -92,6 +93,6 @@ pub fn parsl_top<S: Shelf, O: Sink, E: Sink>(
     };
     match order.command {
         Command::Run => run_top(alloc, order, shelf, out, err),
-        Command::Check | Command::Format => plain_top(alloc, order, shelf, out, err),
+        Command::Seq | Command::Check | Command::Format => plain_top(alloc, order, shelf, out, err),
     }
 }

@@ -11,6 +11,8 @@ use flow_base::{Word, Words};
 pub enum Command {
     /// Run it, and print the report of the run.
     Run,
+    /// Print the head of its sequential evaluation: what a run's report says before its log.
+    Seq,
     /// Print `ok` where it breaks no rule.
     Check,
     /// Print its canonical text.
@@ -23,6 +25,7 @@ impl Command {
     {
         match word {
             "run" => Some(Command::Run),
+            "seq" => Some(Command::Seq),
             "check" => Some(Command::Check),
             "format" => Some(Command::Format),
             _ => None,

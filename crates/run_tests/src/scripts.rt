@@ -421,19 +421,22 @@ fn a_cached_app_has_at_most_16384_bytes(rt: HostRuntime) -> Result<(), Fail> {
 }
 
 #[test]
-fn a_script_that_is_not_small_is_not_run_yet(rt: HostRuntime) -> Result<(), Fail> {
+fn a_script_with_a_cached_or_a_join_app_is_not_run_yet(rt: HostRuntime) -> Result<(), Fail> {
     for script in [
-        b"main { print 1; }".as_slice(),
-        b"join app f() { return 1; } main { let x = call f(); }",
-        b"app f() { let a = 1; return a; } main { }",
+        b"join app f() { return 1; } main { }".as_slice(),
+        b"cached app f() { return 1; } main { }",
+        b"app g() { return 1; } join app f() { return call g(); } main { print 1; }",
     ] {
-        let answer = call(rt.alloc(), &["run", "s"], script, 1000)?;
-        assert_eq!(rt; answer.status, 3, "{script:?}");
-        assert_eq!(rt;
-            answer.err.bytes(),
-            b"parsl: script: not yet\n".as_slice(),
-            "{script:?}"
-        );
+        for command in ["run", "seq"] {
+            let answer = call(rt.alloc(), &[command, "s"], script, 1000)?;
+            assert_eq!(rt; answer.status, 3, "{command} {script:?}");
+            assert_eq!(rt; answer.out.bytes(), b"".as_slice(), "{command} {script:?}");
+            assert_eq!(rt;
+                answer.err.bytes(),
+                b"parsl: script: not yet\n".as_slice(),
+                "{command} {script:?}"
+            );
+        }
     }
     Ok(())
 }

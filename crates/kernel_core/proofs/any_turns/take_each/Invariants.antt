@@ -6,7 +6,7 @@ use Rattle.kernel_core.proofs.any_turns.take_each.Given as goal
 
 abbrev pub invariant-loop-turn : goal.invariant-loop-turn
 invariant-loop-turn g l = record {
-  accepted : l.kernel.refused ≡ l.fn.kernel.refused;
+  accepted : l.kernel.refusal ≡ l.fn.kernel.refusal;
   extends : Extends l.fn.kernel l.kernel;
   honest : All (IsHonest (apps_in l.kernel)) l.turn-iterator.rest.items;
   took : (v : Known) → Took l.turn-iterator.rest.items l.kernel v → Took l.fn.turns.items l.fn.kernel v;

@@ -1,5 +1,7 @@
-use Rattle.kernel_core.proofs.Turning.{extends_script, extends_callback, extends_fetch, extends_deliver, extends_settle, extends_end}
-use Rattle.kernel_core.proofs.Accepting.{accepts_script, accepts_callback, accepts_fetch, accepts_deliver, accepts_settle, accepts_end}
+use Rattle.std.proofs.Common.{◌∙◌}
+use Rattle.kernel_core.proofs.Accepting.{accepts_script, going_accepts}
+use Rattle.kernel_core.proofs.Extending.{extends_script, extends_callback, extends_fetch, extends_deliver, extends_settle, extends_end}
+use Rattle.kernel_core.proofs.MainKept.{callback-keeps, fetch-keeps, deliver-keeps, settle-keeps, end-keeps}
 use Rattle.kernel_core.proofs.any_turns.take_turn.Goals as goal
 
 pub returns-in_ok-script_turn-in-Script-clause-extends : goal.returns-in_ok-script_turn-in-Script-clause-extends
@@ -21,19 +23,19 @@ pub returns-in_ok-end_turn-in-End-clause-extends : goal.returns-in_ok-end_turn-i
 returns-in_ok-end_turn-in-End-clause-extends g c = extends_end _ _ _ c.in_ok-end_turn-in-End.ensures.turn
 
 pub returns-in_ok-script_turn-in-Script-clause-accepted : goal.returns-in_ok-script_turn-in-Script-clause-accepted
-returns-in_ok-script_turn-in-Script-clause-accepted g c = accepts_script c.args.kernel.now _ c.in_ok-script_turn-in-Script.ensures.after
+returns-in_ok-script_turn-in-Script-clause-accepted g c = accepts_script c.args.kernel.now _ c.requires.going c.in_ok-script_turn-in-Script.ensures.after
 
 pub returns-in_ok-callback_turn-in-Callback-clause-accepted : goal.returns-in_ok-callback_turn-in-Callback-clause-accepted
-returns-in_ok-callback_turn-in-Callback-clause-accepted g c = accepts_callback _ _ _ c.in_ok-callback_turn-in-Callback.ensures.turn
+returns-in_ok-callback_turn-in-Callback-clause-accepted g c = (callback-keeps _ _ _ c.in_ok-callback_turn-in-Callback.ensures.turn).refusal ∙ going_accepts c.args.kernel.now c.requires.going
 
 pub returns-in_ok-fetch-in-Fetch-clause-accepted : goal.returns-in_ok-fetch-in-Fetch-clause-accepted
-returns-in_ok-fetch-in-Fetch-clause-accepted g c = accepts_fetch _ _ _ c.in_ok-fetch-in-Fetch.ensures.turn
+returns-in_ok-fetch-in-Fetch-clause-accepted g c = (fetch-keeps _ _ _ c.in_ok-fetch-in-Fetch.ensures.turn).refusal ∙ going_accepts c.args.kernel.now c.requires.going
 
 pub returns-in-Deliver-clause-accepted : goal.returns-in-Deliver-clause-accepted
-returns-in-Deliver-clause-accepted g c = accepts_deliver _ _ _ _ c.deliver.ensures
+returns-in-Deliver-clause-accepted g c = (deliver-keeps _ _ _ _ c.deliver.ensures).refusal ∙ going_accepts c.args.kernel.now c.requires.going
 
 pub returns-in_ok-settle_turn-in-Settle-clause-accepted : goal.returns-in_ok-settle_turn-in-Settle-clause-accepted
-returns-in_ok-settle_turn-in-Settle-clause-accepted g c = accepts_settle _ _ _ c.in_ok-settle_turn-in-Settle.ensures.turn
+returns-in_ok-settle_turn-in-Settle-clause-accepted g c = (settle-keeps _ _ _ c.in_ok-settle_turn-in-Settle.ensures.turn).refusal ∙ going_accepts c.args.kernel.now c.requires.going
 
 pub returns-in_ok-end_turn-in-End-clause-accepted : goal.returns-in_ok-end_turn-in-End-clause-accepted
-returns-in_ok-end_turn-in-End-clause-accepted g c = accepts_end _ _ _ c.in_ok-end_turn-in-End.ensures.turn
+returns-in_ok-end_turn-in-End-clause-accepted g c = (end-keeps _ _ _ c.in_ok-end_turn-in-End.ensures.turn).refusal ∙ going_accepts c.args.kernel.now c.requires.going

@@ -1,5 +1,5 @@
 use Rattle.std.proofs.Common.{sym}
-use Rattle.kernel_core.proofs.Readings.{names-more}
+use Rattle.kernel_core.proofs.TaskReadings.{names-more}
 use Rattle.kernel_core.proofs.reading.same_names.Goals as goal
 
 pub loop-i-preserved : goal.loop-i-preserved

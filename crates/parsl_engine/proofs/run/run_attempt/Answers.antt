@@ -1,8 +1,5 @@
-use Rattle.parsl_engine.proofs.Attempts.{attempted, fetched-unended}
+use Rattle.parsl_engine.proofs.Attempts.{attempted}
 use Rattle.parsl_engine.proofs.run.run_attempt.Goals as goal
 
 pub returns-in-Ok-clause-turn : goal.returns-in-Ok-clause-turn
-returns-in-Ok-clause-turn g c = attempted _ _ _ _ _ _ _ _ c.in-Some.is c.in_ok-job.ensures.turn c.facts.ensures.kept c.script.ensures c.in-Ok.ensures.job c.in-Ok.ensures.end c.deliver.ensures
-
-pub returns-in-Err-clause-unended : goal.returns-in-Err-clause-unended
-returns-in-Err-clause-unended g c = fetched-unended _ _ _ _ c.requires c.in-Some.is c.in_ok-job.ensures.turn
+returns-in-Ok-clause-turn g c = attempted _ _ _ _ _ _ _ _ c.in-Some.is c.in_ok-job.ensures.turn c.facts.ensures.fact.inv c.script.ensures c.in-Ok.ensures.job c.in-Ok.ensures.end c.deliver.ensures

@@ -1,6 +1,6 @@
 use Rattle.std.proofs.Common.{◌∙◌, sym, ap, arith}
 use Rattle.std.specs.Option.{option_copied}
-use Rattle.kernel_core.proofs.Readings.{outcome-found, outcome-missing, path-same}
+use Rattle.kernel_core.proofs.TaskReadings.{outcome-found, outcome-missing, number-same}
 use Rattle.kernel_core.proofs.reading.SettledOutcomes.outcome.Goals as goal
 
 pub returns-in_err-k : goal.returns-in_err-k
@@ -9,7 +9,7 @@ returns-in_err-k c = ap option_copied c.from_residual.ensures ∙ outcome-missin
 pub returns-in_err-get : goal.returns-in_err-get
 returns-in_err-get c =
     let read = c.in_err-get.ensures.lookup in
-    ap option_copied c.from_residual-in_err-get.ensures ∙ outcome-missing c.args.self.now.tasks.now c.args.path.now (λ k within e. let same = path-same k c.in_ok-k.k (sym e ∙ c.in_ok-k.ensures) in absurd (omega arith))
+    ap option_copied c.from_residual-in_err-get.ensures ∙ outcome-missing c.args.self.now.tasks.now c.args.path.now (λ k within e. let same = number-same k c.in_ok-k.k (sym e ∙ c.in_ok-k.ensures) in absurd (omega arith))
 
 pub returns : goal.returns
 returns c =

@@ -1,0 +1,16 @@
+-- What a kernel promises.
+use Rattle.kernel_model.specs.Known.{Known}
+use Rattle.kernel_model.proofs.Facts.{legal-now, outcome-now, complete-now}
+use Rattle.kernel_model.proofs.Whole.{evaluation-now}
+use Rattle.kernel_model.proofs.Totals.{done-within}
+use Rattle.kernel_core.specs.AnyTurns.{Holds}
+use Rattle.kernel_core.specs.Views.{IsFact}
+
+pub holds : (w : Known) → IsFact w → Holds w
+holds w fact = record {
+  legal = legal-now w fact.inv;
+  outcomes = outcome-now w fact.inv;
+  complete = complete-now w fact.inv;
+  evaluation = λ h. evaluation-now w fact.inv (fact.inv.holds.right.ends h);
+  within = λ h. done-within w fact.inv (fact.inv.holds.right.ends h) fact.within;
+}

@@ -1,0 +1,40 @@
+use Rattle.std.proofs.Common.{map, refl, arith}
+use Rattle.std.specs.Arc.{arc_value}
+use Rattle.kernel_core.proofs.MainWrites.{Writes, submit-view, submit-sound}
+use Rattle.kernel_core.proofs.run_state.RunState.submit.Goals as goal
+
+pub invariant_of-self : goal.invariant_of-self
+invariant_of-self g c = rw c.in_err-reserve.ensures.items c.self.invariant
+
+pub invariant_of-self-in_err-reserve-2 : goal.invariant_of-self-in_err-reserve-2
+invariant_of-self-in_err-reserve-2 g c = rw (c.in_err-reserve-2.ensures.items, c.in_ok-reserve.ensures.items) c.self.invariant
+
+pub invariant_of-self-in_err-reserve-3 : goal.invariant_of-self-in_err-reserve-3
+invariant_of-self-in_err-reserve-3 g c =
+    rw (c.in_err-reserve-3.ensures.items, c.in_err-reserve-3.ensures.len, c.in_err-reserve-3.ensures.err, c.in_ok-reserve-2.ensures.items, c.in_ok-reserve.ensures.items) c.self.invariant
+
+pub invariant_of-self-2 : goal.invariant_of-self-2
+invariant_of-self-2 g c =
+    let k = c.self.inside in
+    let writes : Writes (arc_value k.script).tree k.tasks.items c.args.app c.args.arguments c.args.names c.args.path c.len-k.result c.pending.new.self c.in_ok-submitted.submitted c.in_ok-name.name = record {
+      number = omega (arith, c.len-k.ensures);
+      made = rw (c.pending.ensures, c.new-record.ensures) refl;
+      copied = c.in_ok-submitted.ensures;
+      named = rw (← c.deref.ensures, ← c.script.ensures.script, ← c.apps.ensures.apps) c.in_ok-name.ensures;
+    } in (
+      rw (c.push_reserved.ensures.items, c.push_reserved-2.ensures.items, c.push_reserved-3.ensures.items, c.in_ok-reserve.ensures.items, c.in_ok-reserve-2.ensures.items, c.in_ok-reserve-3.ensures.items)
+          (submit-sound _ (arc_value k.script).tree k.tasks.items k.steps.items k.arrived k.ending k.log.items k.refusal (map g.M.Monitor.told k.monitors.items) k.running k.stored c.args.units c.args.app c.args.arguments c.args.names c.args.path c.len-k.result c.pending.new.self c.in_ok-submitted.submitted c.in_ok-name.name c.self.invariant.0 c.self.view_is c.requires.asks c.requires.adds writes),
+      omega (arith, c.in_ok-reserve-3.ensures.ok),
+    )
+
+pub returns-clause-ok : goal.returns-clause-ok
+returns-clause-ok g c =
+    let k = c.self.inside in
+    let writes : Writes (arc_value k.script).tree k.tasks.items c.args.app c.args.arguments c.args.names c.args.path c.len-k.result c.pending.new.self c.in_ok-submitted.submitted c.in_ok-name.name = record {
+      number = omega (arith, c.len-k.ensures);
+      made = rw (c.pending.ensures, c.new-record.ensures) refl;
+      copied = c.in_ok-submitted.ensures;
+      named = rw (← c.deref.ensures, ← c.script.ensures.script, ← c.apps.ensures.apps) c.in_ok-name.ensures;
+    } in
+    rw (c.push_reserved.ensures.items, c.push_reserved-2.ensures.items, c.push_reserved-3.ensures.items, c.in_ok-reserve.ensures.items, c.in_ok-reserve-2.ensures.items, c.in_ok-reserve-3.ensures.items)
+    (submit-view _ (arc_value k.script).tree k.tasks.items k.steps.items k.arrived k.ending k.log.items k.refusal (map g.M.Monitor.told k.monitors.items) k.running k.stored c.args.units c.args.app c.args.arguments c.args.names c.args.path c.len-k.result c.pending.new.self c.in_ok-submitted.submitted c.in_ok-name.name c.self.invariant.0 c.self.view_is c.requires.adds writes)

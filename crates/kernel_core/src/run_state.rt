@@ -1,0 +1,157 @@
+//! The state of a run: its tasks, what main did, and the history.
+
+ghost use Rattle.std.specs.Prelude.{◌≡◌, ◌<◌, ◌^◌, [], ◌∷◌, length, None, map, reverse, is_some, IfOk};
+ghost use Rattle.std.specs.Option.{option_copied};
+ghost use Rattle.std.specs.Arc.{arc_value};
+ghost use Rattle.history_laws.specs.Reads.{history_of, has_end};
+ghost use Rattle.kernel_model.specs.Known.{has_ended, path_at, settled_outcome};
+ghost use Rattle.kernel_model.specs.Acts.{started_with, refused};
+ghost use Rattle.kernel_model.specs.Work.{HasRoom};
+ghost use Rattle.kernel_core.specs.Views.{Opens, IsFact};
+
+use crate::reading::Settled;
+use crate::task::Task;
+use dependency_graph::Monitor;
+use event_log::Entry;
+use flow_base::{Ending, Outcome, Path, Value};
+use kernel_model::Refusal;
+use script_tree::checked::Checked;
+use std::alloc::{AllocError, Global};
+use std::marker::Model;
+use std::sync::Arc;
+
+/// What main was answered, with the numbers of calls from 0.
+#[derive(Drop)]
+pub enum MainStep {
+    /// The future of this call.
+    Call(usize),
+    /// The outcome of this call, for which it waited.
+    Wait(usize),
+    /// Its value is printed.
+    Print(Value),
+    /// Its checkpoint is done.
+    Checkpoint,
+}
+
+/// The tasks of a run, what main did, and the history. Contracts see what is known; its newest entry
+/// stands first.
+#[derive(Drop)]
+pub struct RunState<M: Monitor> {
+    pub(crate) alloc: Global,
+    pub(crate) script: Arc<Checked>,
+    pub(crate) tasks: Vec<Task>,
+    // How many attempts run: the log has room for their ends.
+    pub(crate) running: usize,
+    pub(crate) steps: Vec<MainStep>,
+    // An earlier turn came to the wait at which main stands.
+    pub(crate) arrived: bool,
+    pub(crate) ending: Option<Ending>,
+    // The units that are stored so far.
+    pub(crate) stored: u64,
+    pub(crate) log: Vec<Entry>,
+    pub(crate) refusal: Option<Refusal>,
+    pub(crate) monitors: Vec<M>,
+}
+
+impl<M: Monitor> Model for RunState<M> {
+    ghost use Rattle.std.specs.Prelude.{◌≤◌, ◌+◌, map, vec_len, vec_capacity};
+    ghost use Rattle.std.specs.Arc.{arc_value};
+    ghost use Rattle.std.specs.Coded.{codes};
+    ghost use Rattle.flow_base.specs.contracts.value.Value as value;
+    ghost use Rattle.script_tree.specs.contracts.tree.Statement as statement;
+    ghost use Rattle.script_tree.specs.contracts.tree.Expr as expr;
+    ghost use Rattle.script_tree.specs.contracts.tree.CallExpr as call;
+    ghost use Rattle.kernel_model.specs.Known.{Known};
+    ghost use Rattle.kernel_core.specs.Views.{known_with, IsSound};
+
+    ghost Value = { Known };
+
+    ghost coded = { Prim.hlevel (codes, value.the_row.coded, statement.the_row.coded, expr.the_row.coded, call.the_row.coded) };
+
+    ghost view = { λ s. known_with (arc_value s.script).tree s.tasks.items s.steps.items s.arrived s.ending s.log.items s.refusal (map M.told s.monitors.items) };
+
+    ghost invariant = { λ s.
+        IsSound (known_with (arc_value s.script).tree s.tasks.items s.steps.items s.arrived s.ending s.log.items s.refusal (map M.told s.monitors.items)) s.tasks.items s.steps.items s.running s.stored
+        × (vec_len s.log + s.running ≤ vec_capacity s.log) };
+}
+
+impl<M: Monitor> RunState<M> {
+    /// The state of a run before any turn.
+    pub fn new(alloc: Global, script: Arc<Checked>, monitors: Vec<M>) -> RunState<M>
+        requires { Opens (arc_value script).tree }
+        ensures { result ≡ started_with (arc_value script).tree (map M.told monitors.items) }
+    {
+        RunState {
+            alloc,
+            script,
+            tasks: Vec::new(alloc),
+            running: 0,
+            steps: Vec::new(alloc),
+            arrived: false,
+            ending: None,
+            stored: 0,
+            log: Vec::new(alloc),
+            refusal: None,
+            monitors,
+        }
+    }
+
+    /// What holds of every state of a run.
+    pub fn facts(&self)
+        ensures fact { IsFact self.now }
+        ensures room { HasRoom (2 ^ 64) self.now }
+    {
+        let _ = self.tasks.len();
+        let _ = self.steps.len();
+        let _ = self.log.len();
+    }
+
+    /// A turn is refused for this.
+    pub fn refuse(&mut self, refusal: Refusal)
+        ensures { self.new ≡ refused self.old refusal }
+    {
+        self.refusal = Some(refusal);
+    }
+
+    /// Whether the end stands, or a turn was refused.
+    pub fn ended(&self) -> bool
+        ensures { result ≡ has_ended self.now }
+    {
+        if self.refusal.is_some() {
+            return true;
+        }
+        match self.log.last() {
+            Some(entry) => is_end(entry),
+            None => false,
+        }
+    }
+
+    /// Whether main has ended.
+    pub fn is_main_over(&self) -> bool
+        ensures { result ≡ is_some self.now.ending }
+    {
+        self.ending.is_some()
+    }
+
+    /// The outcome of the task of this number, once it is settled.
+    pub fn outcome(&self, k: usize) -> Option<&Outcome>
+        requires { k < length self.now.calls }
+        ensures { option_copied result ≡ settled_outcome self.now k }
+    {
+        self.tasks[k].outcome()
+    }
+
+    /// The path of the task of this number.
+    pub fn path(&self, k: usize) -> &Path
+        requires { k < length self.now.calls }
+        ensures { result.now ≡ path_at self.now k }
+    {
+        self.tasks[k].record.path()
+    }
+}
+
+fn is_end(entry: &Entry) -> bool
+    ensures { result ≡ has_end (entry.now ∷ []) }
+{
+    matches!(entry, Entry::End)
+}

@@ -1,0 +1,130 @@
+-- A kernel has no more calls and stores no more units than its evaluation, and in the end as many.
+use Rattle.std.proofs.Common.{◌≡◌, ◌≤◌, List, [], ◌∷◌, length, map, sum, Some, None, refl, sym, ◌∙◌, ap, arith}
+use Rattle.std.specs.Prelude.{Result}
+use Rattle.flow_base.specs.declared.value.Value.{Value, out-Value}
+use Rattle.flow_base.specs.declared.outcome.Exception.{Exception}
+use Rattle.flow_base.specs.Values.{units}
+use Rattle.flow_meaning.specs.declared.walk.Request.{Request}
+use Rattle.flow_meaning.specs.declared.walk.Request.TheVariants as request
+use Rattle.flow_meaning.specs.Act.{Act, Give, Throw, Ask}
+use Rattle.flow_meaning.specs.Inputs.{Path, path_in}
+use Rattle.flow_meaning.specs.Meaning.{Done}
+use Rattle.flow_meaning.specs.Sequential.{Tasks, Main, Rule, Sequential, perform, main_answer, waits, seq}
+use Rattle.stored_units.specs.declared.units.Limit.TheVariants as limit
+use Rattle.stored_units.specs.Totals.{units_of_task, total_units, IsWithinLimits}
+use Rattle.call_rules.specs.Calls.{Losses}
+use Rattle.call_rules.specs.Orders.{in_order}
+use Rattle.call_rules.specs.Told.{whole_ran, whole}
+use Rattle.history_laws.specs.Reads.{lost}
+use Rattle.kernel_model.specs.Known.{Known, path_at, known, main_rule, main_left, printed_in, IsDone}
+use Rattle.kernel_model.specs.Invariants.{FollowsEvaluation, Inv}
+use Rattle.kernel_model.specs.Limits.{stored, passed}
+use Rattle.call_rules.proofs.Tasks.{outcome-found, same-some}
+use Rattle.kernel_model.proofs.Counting.{sum-push}
+use Rattle.kernel_model.proofs.Passing.{passed-none, passed-tasks, passed-stored}
+use Rattle.kernel_model.proofs.Pairing.{ArePaired, AreWithin, within-tasks, known-no_more, order-count, order-total}
+use Rattle.kernel_model.proofs.KeepingEnd.{ended-same, some-value}
+use Rattle.kernel_model.proofs.Whole.{tasks-same}
+
+-- ---- printed values
+
+-- an act only prints more
+waits_prints : (m : Main) (ps : List Path) → (waits m ps).1.printed ≡ m.printed
+waits_prints m [] = refl
+waits_prints m (p ∷ ps) = refl
+
+performs_prints : (r : Rule) (act : Act Done) (m : Main) → sum (map units m.printed) ≤ sum (map units (perform (main_answer r) act m).1.printed)
+performs_prints r (Give d) m = omega arith
+performs_prints r (Throw exception) m = omega arith
+performs_prints r (Ask w go) m = let more = answers_print w in let rest = performs_prints r (go (main_answer r w m).0) (main_answer r w m).1 in omega arith
+  where
+    answers_print : (wanted : Request) → sum (map units m.printed) ≤ sum (map units (main_answer r wanted m).1.printed)
+    answers_print (request.Call app arguments names) = omega arith
+    answers_print (request.WaitValue f) = omega (arith, ap (λ (l : List Value). sum (map units l)) (waits_prints m (path_in (out-Value f))))
+    answers_print (request.WaitName f) = omega (arith, ap (λ (l : List Value). sum (map units l)) (waits_prints m (path_in (out-Value f))))
+    answers_print (request.Print value) = omega (arith, sum-push units m.printed value)
+    answers_print request.Checkpoint = omega arith
+
+-- ---- at any time
+
+abbrev pub evaluation_of : Known → Sequential
+evaluation_of w = seq w.tree.0 w.tree.1 (lost w.past)
+
+paired : (w : Known) (losses : Losses) → FollowsEvaluation losses w → ArePaired (whole w.tree losses) w.calls w.lives
+paired w losses e k lt =
+    let there = e.placed k lt in
+    record {
+      there = there;
+      agrees = λ outcome h. same-some there.outcome outcome (sym (outcome-found (whole w.tree losses) (path_at w k) _ there.at) ∙ e.agrees k outcome h);
+    }
+
+tasks_within : (w : Known) → Inv w → AreWithin w.calls w.lives (whole w.tree (lost w.past))
+tasks_within w inv =
+    let e = inv.holds.right.evaluates (lost w.past) inv.holds.right.fits in
+    within-tasks w.calls w.lives (whole w.tree (lost w.past)) inv.holds.tracks.lives inv.holds.tracks.distinct (paired w (lost w.past) e)
+
+printed_within : (w : Known) → Inv w → sum (map units (printed_in w.acts)) ≤ sum (map units (whole_ran w.tree (lost w.past)).1.printed)
+printed_within w inv =
+    let losses : Losses = lost w.past in
+    let e = inv.holds.right.evaluates losses inv.holds.right.fits in
+    let m : Main = record { made = e.made; acts = w.acts; printed = printed_in w.acts } in
+    omega (arith, performs_prints (main_rule w losses) (main_left w) m, ap (λ (x : Result Done Exception × Main). sum (map units x.1.printed)) e.goes_on)
+
+pub calls-within : (w : Known) → Inv w → length w.calls ≤ length (evaluation_of w).tasks
+unfolding seq
+calls-within w inv = (tasks_within w inv).count
+
+pub stored-within : (w : Known) → Inv w → stored w ≤ total_units (evaluation_of w)
+unfolding seq
+stored-within w inv = omega (arith, (tasks_within w inv).total, printed_within w inv)
+
+-- a run past a limit is that of an evaluation past it
+pub past-tasks : (w : Known) → Inv w → passed w ≡ Some limit.Tasks → IsWithinLimits (evaluation_of w) → ⊥
+past-tasks w inv past small = let many = (passed-tasks w).0 past in let few = small.few in let within = calls-within w inv in absurd (omega arith)
+
+pub past-store : (w : Known) → Inv w → passed w ≡ Some limit.Stored → IsWithinLimits (evaluation_of w) → ⊥
+past-store w inv past small = let many = ((passed-stored w).0 past).1 in let few = small.small in let within = stored-within w inv in absurd (omega arith)
+
+-- ---- at the end
+
+tasks_done : (w : Known) → Inv w → IsDone w → in_order (known w) ≡ whole w.tree (lost w.past)
+tasks_done w inv done = tasks-same w (lost w.past) inv done (inv.holds.right.evaluates (lost w.past) inv.holds.right.fits)
+
+printed_done : (w : Known) → Inv w → IsDone w → (whole_ran w.tree (lost w.past)).1.printed ≡ printed_in w.acts
+printed_done w inv done =
+    let losses : Losses = lost w.past in
+    let e = inv.holds.right.evaluates losses inv.holds.right.fits in
+    let last = some-value w.ending done.over in
+    let m : Main = record { made = e.made; acts = w.acts; printed = printed_in w.acts } in
+    ap (λ (x : Result Done Exception × Main). x.1.printed) e.goes_on ∙ ap (λ (n : Main). n.printed) (ended-same (main_rule w losses) last.0 (main_left w) m (inv.holds.main.ended last.0 last.1))
+
+pub calls-done : (w : Known) → Inv w → IsDone w → length (evaluation_of w).tasks ≤ length w.calls
+unfolding seq
+calls-done w inv done = omega (arith, ap length (tasks_done w inv done), order-count (known w), (known-no_more w.calls w.lives).count)
+
+pub stored-done : (w : Known) → Inv w → IsDone w → total_units (evaluation_of w) ≤ stored w
+unfolding seq
+stored-done w inv done =
+    omega (
+      arith,
+      ap (λ (ts : Tasks). sum (map units_of_task ts)) (tasks_done w inv done),
+      order-total (known w),
+      (known-no_more w.calls w.lives).total,
+      ap (λ (l : List Value). sum (map units l)) (printed_done w inv done),
+    )
+
+pub done-within : (w : Known) → Inv w → IsDone w → passed w ≡ None → IsWithinLimits (evaluation_of w)
+done-within w inv done none =
+    let both = (passed-none w).0 none in
+    let few = both.0 in
+    let small = both.1 in
+    let count = calls-done w inv done in
+    let total = stored-done w inv done in
+    record { few = omega arith; small = omega arith }
+
+-- both sums are then those of the evaluation
+pub calls-equal : (w : Known) → Inv w → IsDone w → length w.calls ≡ length (evaluation_of w).tasks
+calls-equal w inv done = let less = calls-within w inv in let more = calls-done w inv done in omega arith
+
+pub stored-equal : (w : Known) → Inv w → IsDone w → stored w ≡ total_units (evaluation_of w)
+stored-equal w inv done = let less = stored-within w inv in let more = stored-done w inv done in omega arith

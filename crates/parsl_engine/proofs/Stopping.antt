@@ -1,0 +1,72 @@
+-- What a refused turn says.
+use Rattle.std.proofs.Common.{◌≡◌, ◌≤◌, false, length, Some, sym, ◌∙◌, ap, subst, arith}
+use Rattle.script_tree.specs.Grammar.{Tree}
+use Rattle.stored_units.specs.declared.units.Limit.TheVariants as limit
+use Rattle.stored_units.specs.Totals.{total_units}
+use Rattle.history_laws.specs.Reads.{has_end}
+use Rattle.kernel_model.specs.declared.answers.Refusal.{Refusal}
+use Rattle.kernel_model.specs.declared.answers.Refusal.TheVariants.{NoMemory, TaskLimit, StoreLimit}
+use Rattle.kernel_model.specs.Known.{Known, has_ended}
+use Rattle.kernel_model.specs.Invariants.{Inv}
+use Rattle.kernel_model.specs.Acts.{refused}
+use Rattle.kernel_model.specs.Limits.{stored, passed, IsRefusedFor}
+use Rattle.kernel_model.specs.Turns.{script_step, Settles}
+use Rattle.kernel_model.proofs.Facts.{keep-script-step}
+use Rattle.kernel_model.proofs.KeepingTasks.{keep-settled}
+use Rattle.kernel_model.proofs.Passing.{passed-tasks, passed-stored}
+use Rattle.kernel_model.proofs.Totals.{calls-within, stored-within}
+use Rattle.kernel_core.specs.Refused.{IsRefused}
+use Rattle.parsl_engine.specs.Runs.{without_losses, PassesLimit, RefusesFor}
+use Rattle.parsl_engine.proofs.Turning.{going-open, script-stays}
+
+-- ---- a kernel past a limit is that of an evaluation past it
+
+tasks_pass : (u : Known) → Inv u → passed u ≡ Some limit.Tasks → PassesLimit u.tree limit.Tasks
+tasks_pass u inv past =
+    let many = (passed-tasks u).0 past in
+    let within : length u.calls ≤ length (without_losses u.tree).tasks = calls-within u inv in
+    omega (arith, many, within)
+
+units_pass : (u : Known) → Inv u → passed u ≡ Some limit.Stored → PassesLimit u.tree limit.Stored
+units_pass u inv past =
+    let many = ((passed-stored u).0 past).1 in
+    let within : stored u ≤ total_units (without_losses u.tree) = stored-within u inv in
+    omega (arith, many, within)
+
+-- the kernels that would stand are kernels of this script
+abbrev AreOf : Tree → (Known → Type 0) → Type 0
+AreOf tree Leaves = (u : Known) → Leaves u → Inv u × (u.tree ≡ tree)
+
+cause : (tree : Tree) (Leaves : Known → Type 0) (refusal : Refusal) → AreOf tree Leaves → IsRefusedFor Leaves refusal → RefusesFor tree refusal
+cause tree Leaves NoMemory are h = tt
+cause tree Leaves TaskLimit are h = let u = are h.0 h.1 in subst (λ (t : Tree). PassesLimit t limit.Tasks) u.1 (tasks_pass h.0 u.0 h.2)
+cause tree Leaves StoreLimit are h = let u = are h.0 h.1 in subst (λ (t : Tree). PassesLimit t limit.Stored) u.1 (units_pass h.0 u.0 h.2)
+
+script_leaves : (w : Known) → Inv w → has_ended w ≡ false → AreOf w.tree (λ v. v ≡ (script_step w).1)
+script_leaves w inv going u is = (subst Inv (sym is) (keep-script-step w inv going), ap (λ (x : Known). x.tree) is ∙ (script-stays w).tree)
+
+settle_leaves : (w : Known) → Inv w → has_ended w ≡ false → AreOf w.tree (Settles w)
+settle_leaves w inv going u s =
+    (subst Inv (sym s.after) (keep-settled w s.task s.outcome inv (record { not_ended = going; over = s.over; is = s.is })), ap (λ (x : Known). x.tree) s.after)
+
+-- ---- a round that was refused
+
+pub record IsStopped (w v : Known) (refusal : Refusal) : Type 0 where
+  pub tree : v.tree ≡ w.tree
+  pub unended : has_end v.past ≡ false
+  pub cause : RefusesFor w.tree refusal
+
+stopped : (w v : Known) (told refusal : Refusal) → has_ended w ≡ false → v ≡ refused w told → RefusesFor w.tree refusal → IsStopped w v refusal
+stopped w v told refusal going after why = record {
+  tree = ap (λ (u : Known). u.tree) after;
+  unended = ap (λ (u : Known). has_end u.past) after ∙ going-open w going;
+  cause = why;
+}
+
+pub script-stopped : (w v : Known) (refusal : Refusal) → has_ended w ≡ false → Inv w → IsRefused w v (λ u. u ≡ (script_step w).1) refusal → IsStopped w v refusal
+script-stopped w v refusal going inv h = stopped w v refusal refusal going h.after (cause w.tree (λ u. u ≡ (script_step w).1) refusal (script_leaves w inv going) h.cause)
+
+pub settle-stopped : (w u v : Known) (refusal : Refusal) → u ≡ w → has_ended w ≡ false → Inv w → IsRefused u v (Settles u) refusal → IsStopped w v refusal
+settle-stopped w u v refusal same going inv h =
+    let here : IsRefused w v (Settles w) refusal = subst (λ (x : Known). IsRefused x v (Settles x) refusal) same h in
+    stopped w v refusal refusal going here.after (cause w.tree (Settles w) refusal (settle_leaves w inv going) here.cause)

@@ -1,0 +1,5 @@
+pub mod Answering
+pub mod Entries
+pub mod Evaluating
+pub mod Faults
+pub mod Lost

@@ -1,0 +1,72 @@
+//! The sequential evaluation of a script without joins.
+
+ghost use Rattle.std.specs.Prelude.{◌<◌, ◌^◌, length};
+ghost use Rattle.call_rules.specs.PlainScripts.{NoJoins};
+ghost use Rattle.script_eval.specs.Evaluating.{Evaluates};
+ghost use Rattle.script_eval.specs.Lost.{loss_at};
+
+use crate::losses::Losses;
+use crate::progress::Progress;
+use crate::walking::main_walk;
+use app_eval::{Reply, Want};
+use flow_base::Evaluation;
+use script_tree::checked::Checked;
+use std::alloc::{AllocError, Global};
+use stored_units::Limit;
+
+/// Why a script has no evaluation.
+#[derive(Clone, Copy, Debug, PartialEq, Eq)]
+pub enum EvalFault {
+    /// It has more calls than a run may have.
+    TaskLimit,
+    /// It stores more units than a run may store.
+    StoreLimit,
+    /// An allocation was refused.
+    NoMemory,
+}
+
+impl From<AllocError> for EvalFault {
+    ghost use Rattle.std.specs.Prelude.{◌≡◌};
+    ghost use Rattle.script_eval.specs.declared.evaluation.EvalFault.TheVariants.{NoMemory};
+
+    ghost from_gives = { λ _ fault. fault ≡ NoMemory };
+
+    fn from(_: AllocError) -> EvalFault {
+        EvalFault::NoMemory
+    }
+}
+
+impl From<Limit> for EvalFault {
+    ghost use Rattle.std.specs.Prelude.{◌≡◌};
+    ghost use Rattle.script_eval.specs.Faults.{fault_for};
+
+    ghost from_gives = { λ limit fault. fault ≡ fault_for limit };
+
+    fn from(limit: Limit) -> EvalFault {
+        match limit {
+            Limit::Tasks => EvalFault::TaskLimit,
+            Limit::Stored => EvalFault::StoreLimit,
+        }
+    }
+}
+
+/// The sequential evaluation of a script without joins, where these tasks are lost; or the limit that it
+/// meets first.
+pub fn evaluate(alloc: Global, script: &Checked, losses: &Losses) -> Result<Evaluation, EvalFault>
+    requires few { length script.now.tree.0 < 2 ^ 32 }
+    requires plain { NoJoins script.now.tree }
+    ensures { Evaluates script.now.tree (loss_at losses.now) result }
+{
+    let apps = script.script().apps();
+    let mut walk = main_walk(alloc, script)?;
+    let mut progress = Progress::new(alloc);
+    let mut reply = Reply::Begin;
+    'requests: loop {
+        match walk.resume(alloc, reply)? {
+            Want::Asks(request) => {
+                reply = Reply::Told(progress.answer(alloc, apps, losses, request)?);
+            }
+            Want::Ended(ended) => return Ok(progress.evaluation(ended)),
+        }
+    }
+}

@@ -1,0 +1,56 @@
+//! The walk of main.
+
+ghost use Rattle.std.specs.Prelude.{◌≡◌, ◌+◌, ◌-◌, ◌<◌, ◌^◌, suc, length, IfOk, OnOk};
+ghost use Rattle.flow_meaning.specs.Walk.{main_act};
+ghost use Rattle.app_eval.specs.Walks.{Resumes, left_of, rest_of};
+
+use app_eval::{Reply, Walker, Want};
+use script_tree::checked::Checked;
+use std::alloc::{AllocError, Global};
+
+/// What a walk was told.
+#[derive(Clone, Copy)]
+pub enum Told {
+    /// To begin.
+    Start,
+    /// An answer.
+    Answer,
+}
+
+/// A walk of main, and what it was told.
+#[derive(Drop)]
+pub struct CountedWalk {
+    pub walker: Walker,
+    // what it was told so far: a vector never gets as long as a walk may be
+    pub told: Vec<Told>,
+}
+
+/// The walk of main at its beginning.
+pub fn main_walk(alloc: Global, script: &Checked) -> Result<CountedWalk, AllocError>
+    requires { length script.now.tree.0 < 2 ^ 32 }
+    ensures left { IfOk result (λ w. left_of w.walker ≡ main_act script.now.tree) }
+    ensures rest { IfOk result (λ w. length w.told.items + rest_of w.walker ≡ 2 ^ 64 - 1) }
+{
+    Ok(CountedWalk {
+        walker: Walker::main(alloc, script)?,
+        told: Vec::new(alloc),
+    })
+}
+
+impl CountedWalk {
+    /// On to the next want.
+    pub fn resume(&mut self, alloc: Global, reply: Reply) -> Result<Want, AllocError>
+        requires { length self.old.told.items + rest_of self.old.walker ≡ 2 ^ 64 - 1 }
+        ensures wants { Resumes self.old.walker self.new.walker reply result }
+        ensures rest { OnOk result (length self.new.told.items + rest_of self.new.walker ≡ 2 ^ 64 - 1) }
+        ensures fewer { OnOk result (suc (rest_of self.new.walker) ≡ rest_of self.old.walker) }
+    {
+        let told = match &reply {
+            Reply::Begin => Told::Start,
+            Reply::Told(_) => Told::Answer,
+        };
+        self.told.push(told)?;
+        let _times = self.told.len();
+        self.walker.resume(alloc, reply)
+    }
+}

@@ -1,4 +1,0 @@
-pub mod Calls
-pub mod Ints
-pub mod Plan
-pub mod Steps

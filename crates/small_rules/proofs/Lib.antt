@@ -1,5 +1,0 @@
-pub mod SmallFolds
-pub mod SmallMarks
-pub mod SmallFaults
-pub mod SmallSpelling
-pub mod Opening

@@ -1,2 +1,0 @@
-pub mod SmallRules
-pub mod SmallTokens

@@ -1,2 +1,0 @@
-//! Why a small script that breaks no static rule meets what a kernel begins with.
-#![tactic(auto)]
