@@ -4,5 +4,5 @@ mod Courses
 mod Turning
 mod Stopping
 mod Attempts
-mod Opening
+pub mod Opening
 mod Outputs
