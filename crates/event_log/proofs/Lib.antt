@@ -1,0 +1,13 @@
+pub mod Branches
+pub mod Digits
+pub mod Entries
+pub mod Fields
+pub mod Fronts
+pub mod Names
+pub mod Numbers
+pub mod Paths
+pub mod Pieces
+pub mod Readers
+pub mod Tables
+pub mod Texts
+pub mod Whole

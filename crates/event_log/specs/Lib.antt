@@ -1,1 +1,4 @@
 pub mod LogText
+pub mod LogWords
+pub mod Logs
+pub mod Reading

@@ -1,10 +1,13 @@
 //! The text of a log.
 
 ghost use Rattle.std.specs.Prelude.{◌≡◌, ◌++◌, IfOk, OnOk};
-ghost use Rattle.event_log.specs.LogText.{attempt_text, managed_text, entry_text, log_text};
+ghost use Rattle.std.specs.Prelude.{codes};
+ghost use Rattle.std.specs.Fmt.{decimal};
+ghost use Rattle.event_log.specs.LogText.{attempt_text, managed_text, decision_text, entry_text, log_text};
 
 use crate::entry::{Entries, Entry};
-use flow_base::Path;
+use crate::words::block_word;
+use flow_base::{Decision, Path};
 use std::alloc::{AllocError, Global};
 use text_writer::Writer;
 
@@ -31,6 +34,39 @@ fn print_managed(
     writer.number(manager)
 }
 
+// As `keep` or `out 2`.
+fn print_decision(writer: &mut Writer, decision: Decision) -> Result<(), AllocError>
+    ensures { OnOk result (writer.new ≡ writer.old ++ decision_text decision) }
+{
+    match decision {
+        Decision::Keep => writer.add(b"keep"),
+        Decision::Out(count) => {
+            writer.add(b"out ")?;
+            writer.number(count)
+        }
+        Decision::In(count) => {
+            writer.add(b"in ")?;
+            writer.number(count)
+        }
+    }
+}
+
+// As `1 block 2 slots 4`.
+fn print_registration(
+    writer: &mut Writer,
+    manager: u32,
+    block: u32,
+    slots: u32,
+) -> Result<(), AllocError>
+    ensures { OnOk result (writer.new ≡ writer.old ++ decimal manager ++ codes " block " ++ decimal block ++ codes " slots " ++ decimal slots) }
+{
+    writer.number(manager)?;
+    writer.add(b" block ")?;
+    writer.number(block)?;
+    writer.add(b" slots ")?;
+    writer.number(slots)
+}
+
 fn print_entry(writer: &mut Writer, entry: &Entry) -> Result<(), AllocError>
     ensures { OnOk result (writer.new ≡ writer.old ++ entry_text entry.now) }
 {
@@ -45,9 +81,21 @@ fn print_entry(writer: &mut Writer, entry: &Entry) -> Result<(), AllocError>
             writer.add(b"join ")?;
             writer.path(path)
         }
+        Entry::MemoHit { path } => {
+            writer.add(b"memo ")?;
+            writer.path(path)
+        }
         Entry::Launch { path, attempt } => {
             writer.add(b"launch ")?;
             print_attempt(writer, path, *attempt)
+        }
+        Entry::Dispatch {
+            path,
+            attempt,
+            manager,
+        } => {
+            writer.add(b"dispatch ")?;
+            print_managed(writer, path, *attempt, *manager)
         }
         Entry::Start {
             path,
@@ -68,11 +116,87 @@ fn print_entry(writer: &mut Writer, entry: &Entry) -> Result<(), AllocError>
             writer.add(b" ")?;
             writer.add(ended.as_slice())
         }
+        Entry::Held {
+            path,
+            attempt,
+            manager,
+        } => {
+            writer.add(b"held ")?;
+            print_managed(writer, path, *attempt, *manager)
+        }
+        Entry::LostTry {
+            path,
+            attempt,
+            manager,
+        } => {
+            writer.add(b"losttry ")?;
+            print_managed(writer, path, *attempt, *manager)
+        }
+        Entry::Stored { path } => {
+            writer.add(b"stored ")?;
+            writer.path(path)
+        }
         Entry::Settled { path, status } => {
             writer.add(b"settled ")?;
             writer.path(path)?;
             writer.add(b" ")?;
             writer.add(status.name().as_bytes())
+        }
+        Entry::Block { block, state } => {
+            writer.add(b"block ")?;
+            writer.number(*block)?;
+            writer.add(b" ")?;
+            writer.add(block_word(*state).as_bytes())
+        }
+        Entry::Register {
+            manager,
+            block,
+            slots,
+        } => {
+            writer.add(b"register ")?;
+            print_registration(writer, *manager, *block, *slots)
+        }
+        Entry::Refused { block, version } => {
+            writer.add(b"refused ")?;
+            writer.number(*block)?;
+            writer.add(b" ")?;
+            writer.quote(version)
+        }
+        Entry::Tick { at } => {
+            writer.add(b"tick ")?;
+            writer.long(*at)
+        }
+        Entry::Beat { manager } => {
+            writer.add(b"beat ")?;
+            writer.number(*manager)
+        }
+        Entry::Silent { manager } => {
+            writer.add(b"silent ")?;
+            writer.number(*manager)
+        }
+        Entry::Lost { manager } => {
+            writer.add(b"lost ")?;
+            writer.number(*manager)
+        }
+        Entry::Drain { manager } => {
+            writer.add(b"drain ")?;
+            writer.number(*manager)
+        }
+        Entry::Drained { manager } => {
+            writer.add(b"drained ")?;
+            writer.number(*manager)
+        }
+        Entry::Hold { manager } => {
+            writer.add(b"hold ")?;
+            writer.number(*manager)
+        }
+        Entry::Scale { decision } => {
+            writer.add(b"scale ")?;
+            print_decision(writer, *decision)
+        }
+        Entry::Checkpoint { count } => {
+            writer.add(b"checkpoint ")?;
+            writer.long(*count)
         }
         Entry::End => writer.add(b"end"),
     }

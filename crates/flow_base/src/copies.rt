@@ -1,8 +1,8 @@
-//! Copies of exceptions.
+//! Copies of exceptions and outcomes.
 
 ghost use Rattle.std.specs.Prelude.{◌≡◌, IfOk};
 
-use crate::outcome::Exception;
+use crate::outcome::{Exception, FileOut, Files, Outcome};
 use crate::path::{Path, Paths};
 use sqlite_items::Items as ListOf;
 use std::alloc::{AllocError, Global};
@@ -32,6 +32,34 @@ impl Exception {
             Exception::ManagerLost(manager) => Ok(Exception::ManagerLost(*manager)),
         }
     }
+}
+
+impl Outcome {
+    /// An equal outcome.
+    pub fn copy(&self, alloc: Global) -> Result<Outcome, AllocError>
+        ensures { IfOk result (λ outcome. outcome ≡ self.now) }
+    {
+        match self {
+            Outcome::Value { value, files } => Ok(Outcome::Value {
+                value: value.copy(alloc)?,
+                files: copy_files(alloc, files.as_slice())?,
+            }),
+            Outcome::Failed(exception) => Ok(Outcome::Failed(exception.copy(alloc)?)),
+        }
+    }
+}
+
+fn copy_files(alloc: Global, files: &[FileOut]) -> Result<Files, AllocError>
+    ensures { IfOk result (λ copies. copies ≡ files.now) }
+{
+    let mut copies = Files::new(alloc);
+    for file in files {
+        copies.push(FileOut {
+            name: file.name.copy(alloc)?,
+            content: file.content.copy(alloc)?,
+        })?;
+    }
+    Ok(copies)
 }
 
 fn copy_paths(alloc: Global, paths: &[Path]) -> Result<Paths, AllocError>

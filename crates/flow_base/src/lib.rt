@@ -2,6 +2,7 @@
 #![tactic(auto)]
 
 mod copies;
+mod decision;
 mod host_shelf;
 mod host_sink;
 mod mem_file;
@@ -18,6 +19,7 @@ mod text;
 pub mod value;
 mod word;
 
+pub use decision::Decision;
 pub use host_shelf::HostShelf;
 pub use host_sink::HostSink;
 pub use mem_shelf::MemShelf;
@@ -28,7 +30,7 @@ pub use outcome::{
 pub use path::{MAX_PATH, Path, Paths};
 pub use shelf::{CallKind, Shelf, ShelfFault};
 pub use sink::{Failed, Sink, write_whole};
-pub use text::{Names, Text};
+pub use text::{Names, Text, copy_names};
 pub use value::{Items, MAX_LEVELS, MAX_UNITS, Value};
 pub use word::{Word, Words};
 

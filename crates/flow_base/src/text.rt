@@ -16,6 +16,17 @@ pub struct Text {
 /// A list of names.
 pub type Names = ListOf<Text>;
 
+/// Equal names, in the same order.
+pub fn copy_names(alloc: Global, names: &[Text]) -> Result<Names, AllocError>
+    ensures { IfOk result (λ copies. copies ≡ names.now) }
+{
+    let mut copies = ListOf::new(alloc);
+    for name in names {
+        copies.push(name.copy(alloc)?)?;
+    }
+    Ok(copies)
+}
+
 impl Model for Text {
     ghost use Rattle.std.specs.Prelude.{List, ℕ, All, string_bytes};
     ghost use Rattle.flow_base.specs.TextBytes.{IsTextByte};

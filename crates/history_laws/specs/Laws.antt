@@ -1,5 +1,5 @@
 -- The laws of a history. Each is a test of one entry against the entries before it, with a table.
-use Rattle.std.specs.Prelude.{◌≡◌, ℕ, suc, ◌+◌, ◌<◌, ◌≤◌, true, false, List, [], ◌∷◌, Option, Some, None, IsSome, option_map, bytes_eq}
+use Rattle.std.specs.Prelude.{◌≡◌, ℕ, Bool, suc, ◌+◌, ◌<◌, ◌≤◌, true, false, List, [], ◌∷◌, Option, Some, None, IsSome, option_map, bytes_eq}
 use Rattle.task_record.specs.declared.status.Status.{Status}
 use Rattle.task_record.specs.declared.status.Status.TheVariants as status
 use Rattle.event_log.specs.declared.entry.Entry.{Entry}
@@ -114,6 +114,10 @@ pub record JoinRunStands (z : Table) (b : History) (p : Path) : Type 0 where
 abbrev pub LaunchLaw : Table → History → Entry → Type 0
 LaunchLaw z b (entry.Launch p n) = LaunchStands z b p
 LaunchLaw z b (entry.JoinRun p) = JoinRunStands z b p
+-- no value is stored, or taken from an earlier call
+LaunchLaw z b (entry.MemoHit p) = ⊥
+LaunchLaw z b (entry.Stored p) = ⊥
+LaunchLaw z b (entry.Checkpoint count) = ⊥
 LaunchLaw z b _ = Unit {0}
 
 -- ---- attempts
@@ -168,8 +172,27 @@ pub record AtManager (b : History) (p : Path) (n manager : ℕ) (there : Stage) 
   pub number : n ≡ launches p b
   pub first : manager ≡ 1
 
--- a launched attempt is started, and a started one ends
+-- what tells of managers, their blocks or the clock
+abbrev pub is_of_managers : Entry → Bool
+is_of_managers (entry.Dispatch p n manager) = true
+is_of_managers (entry.Held p n manager) = true
+is_of_managers (entry.LostTry p n manager) = true
+is_of_managers (entry.Block block state) = true
+is_of_managers (entry.Register manager block slots) = true
+is_of_managers (entry.Refused block version) = true
+is_of_managers (entry.Tick at) = true
+is_of_managers (entry.Beat manager) = true
+is_of_managers (entry.Silent manager) = true
+is_of_managers (entry.Lost manager) = true
+is_of_managers (entry.Drain manager) = true
+is_of_managers (entry.Drained manager) = true
+is_of_managers (entry.Hold manager) = true
+is_of_managers (entry.Scale decided) = true
+is_of_managers _ = false
+
+-- A launched attempt is started, and a started one ends. There is one manager from the beginning to the end, so
+-- nothing is told of managers.
 abbrev pub ManagerLaw : History → Entry → Type 0
 ManagerLaw b (entry.Start p n manager) = AtManager b p n manager Waiting
 ManagerLaw b (entry.Ended p n manager kind) = AtManager b p n manager Running
-ManagerLaw b _ = Unit {0}
+ManagerLaw b e = is_of_managers e ≡ false

@@ -3,7 +3,7 @@
 ghost use Rattle.std.specs.Prelude.{◌≡◌, ◌+◌, ◌↔◌, ◌∷◌, [], suc, true, IsTrue, Some, None, reverse, option_map};
 ghost use Rattle.history_laws.specs.declared.table.Expected.{Expected};
 ghost use Rattle.history_laws.specs.Tables.{task_at};
-ghost use Rattle.history_laws.specs.Laws.{AllSettled, SubmitStands, SettledStands, IsOver, IsFree, OwnStands, SettlingStands, SettlingLaw, LaunchStands, JoinRunStands, LaunchLaw, MayFollow, AttemptFollows, IsOut, AttemptEnds, MaySettle, AttemptsSettle, AttemptLaw, ManagerLaw};
+ghost use Rattle.history_laws.specs.Laws.{AllSettled, SubmitStands, SettledStands, IsOver, IsFree, OwnStands, SettlingStands, SettlingLaw, LaunchStands, JoinRunStands, LaunchLaw, MayFollow, AttemptFollows, IsOut, AttemptEnds, MaySettle, AttemptsSettle, AttemptLaw, ManagerLaw, is_of_managers};
 ghost use Rattle.history_laws.specs.Reads.{is_submitted, settled, has_joined, launches, Waiting, Running, stage, last_try, costs};
 ghost use Rattle.call_rules.specs.Calls.{child};
 ghost use Rattle.history_verdict.specs.Calls.{IsCall, IsNextChild};
@@ -205,6 +205,7 @@ pub fn launch_law(table: &Table, before: &[Entry], entry: &Entry) -> bool
     match entry {
         Entry::Launch { path, .. } => launch_stands(table, before, path),
         Entry::JoinRun { path } => join_run_stands(table, before, path),
+        Entry::MemoHit { .. } | Entry::Stored { .. } | Entry::Checkpoint { .. } => false,
         _ => true,
     }
 }
@@ -310,6 +311,29 @@ fn is_running(path: &Path, before: &[Entry]) -> bool
     last_attempt(path, before) == Progress::Running
 }
 
+// Whether the entry tells of managers, their blocks or the clock.
+fn is_of_managers(entry: &Entry) -> bool
+    ensures { result ≡ is_of_managers entry.now }
+{
+    matches!(
+        entry,
+        Entry::Dispatch { .. }
+            | Entry::Held { .. }
+            | Entry::LostTry { .. }
+            | Entry::Block { .. }
+            | Entry::Register { .. }
+            | Entry::Refused { .. }
+            | Entry::Tick { .. }
+            | Entry::Beat { .. }
+            | Entry::Silent { .. }
+            | Entry::Lost { .. }
+            | Entry::Drain { .. }
+            | Entry::Drained { .. }
+            | Entry::Hold { .. }
+            | Entry::Scale { .. }
+    )
+}
+
 /// Whether the entry stands by the law of the one manager.
 pub fn manager_law(before: &[Entry], entry: &Entry) -> bool
     ensures { IsTrue result ↔ ManagerLaw (reverse before.now) entry.now }
@@ -326,6 +350,6 @@ pub fn manager_law(before: &[Entry], entry: &Entry) -> bool
             manager,
             ..
         } => is_running(path, before) && is_last(path, before, *attempt) && *manager == 1,
-        _ => true,
+        _ => !is_of_managers(entry),
     }
 }

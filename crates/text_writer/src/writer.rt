@@ -56,6 +56,14 @@ impl Writer {
         self.add(text.as_bytes())
     }
 
+    /// Adds a number of up to 20 digits in decimal.
+    pub fn long(&mut self, n: u64) -> Result<(), AllocError>
+        ensures { OnOk result (self.new ≡ self.old ++ decimal n) }
+    {
+        let text = n.to_string(self.alloc)?;
+        self.add(text.as_bytes())
+    }
+
     /// Adds a number in decimal, with `-` before it where it is below 0.
     pub fn signed(&mut self, n: i64) -> Result<(), AllocError>
         ensures { OnOk result (self.new ≡ self.old ++ signed_decimal n) }
