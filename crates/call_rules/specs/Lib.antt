@@ -3,4 +3,3 @@ pub mod Groups
 pub mod Laws
 pub mod Orders
 pub mod Told
-pub mod PlainScripts

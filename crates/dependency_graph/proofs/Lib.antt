@@ -1,3 +1,4 @@
 pub mod Distinct
 pub mod Equality
 mod Lengths
+pub mod Places

@@ -1,5 +1,12 @@
-pub mod Limits
 pub mod LossTable
+pub mod Limits
+pub mod Storings
+pub mod Under
 pub mod Looking
+pub mod Ruling
 pub mod Calling
+pub mod Joining
 pub mod Standing
+pub mod Outcomes
+pub mod Ending
+pub mod Settling

@@ -8,7 +8,7 @@ use Rattle.stored_units.specs.declared.units.Limit.{Limit}
 use Rattle.stored_units.specs.declared.units.Limit.TheVariants as limit
 use Rattle.stored_units.specs.Stored.{max_tasks, max_stored, name_units}
 use Rattle.stored_units.specs.Totals.{Storing, Submits, Stores, first_limit}
-use Rattle.script_eval.specs.declared.progress.Progress.{Progress}
+use Rattle.script_eval.specs.declared.state.EvalState.{EvalState}
 use Rattle.script_eval.specs.declared.evaluation.EvalFault.{EvalFault}
 use Rattle.script_eval.specs.Faults.{Meets, fault_for}
 use Rattle.script_eval.specs.Answering.{Takes, with_units}
@@ -80,18 +80,18 @@ capped s n u is = by_test (nat_lt max_stored (s + u)) refl
 uncapped : (s n u : ℕ) → u ≡ min n (2 ^ 64 - 1) → s + u ≤ max_stored → u ≡ n
 uncapped s n u is small = omega arith
 
-pub stores-capped : {A : Type 0} → (n u : ℕ) (before now : Progress) (r : Result A Limit) → u ≡ min n (2 ^ 64 - 1) → Takes (Stores u ∷ []) before (with_units u before) now r → Takes (Stores n ∷ []) before (with_units n before) now r
+pub stores-capped : {A : Type 0} → (n u : ℕ) (before now : EvalState) (r : Result A Limit) → u ≡ min n (2 ^ 64 - 1) → Takes (Stores u ∷ []) before (with_units u before) now r → Takes (Stores n ∷ []) before (with_units n before) now r
 stores-capped n u before now (Ok a) is h =
-    let same : u ≡ n = uncapped before.stored n u is (stores-room (length before.ends) before.stored u [] h.0) in
+    let same : u ≡ n = uncapped before.stored n u is (stores-room (length before.tasks.items) before.stored u [] h.0) in
     (rw (← same) h.0, rw (← same) h.1)
 stores-capped n u before now (Err l) is h = rw (capped before.stored n u is) h
 
-pub submits-capped : {A : Type 0} → (n u : ℕ) (before now : Progress) (r : Result A Limit) → u ≡ min n (2 ^ 64 - 1) → length before.ends < max_tasks → Takes (Stores u ∷ []) before (with_units u before) now r → Takes (Submits n ∷ []) before (with_units n before) now r
+pub submits-capped : {A : Type 0} → (n u : ℕ) (before now : EvalState) (r : Result A Limit) → u ≡ min n (2 ^ 64 - 1) → length before.tasks.items < max_tasks → Takes (Stores u ∷ []) before (with_units u before) now r → Takes (Submits n ∷ []) before (with_units n before) now r
 submits-capped n u before now r is below h = by_result r (stores-capped n u before now r is h)
   where
     by_result : {A : Type 0} → (r : Result A Limit) → Takes (Stores n ∷ []) before (with_units n before) now r → Takes (Submits n ∷ []) before (with_units n before) now r
-    by_result (Ok a) g = (rw (lt_true (length before.ends) max_tasks below) g.0, g.1)
-    by_result (Err l) g = rw (lt_true (length before.ends) max_tasks below) g
+    by_result (Ok a) g = (rw (lt_true (length before.tasks.items) max_tasks below) g.0, g.1)
+    by_result (Err l) g = rw (lt_true (length before.tasks.items) max_tasks below) g
 
 pub no-call : (n c s : ℕ) → max_tasks ≤ c → first_limit c s (Submits n ∷ []) ≡ Some limit.Tasks
 no-call n c s above = rw (lt_false c max_tasks above) refl

@@ -1,106 +1,92 @@
--- The sequential evaluation of a script without joins, from one request of main to the next.
-use Rattle.std.proofs.Common.{◌≡◌, ℕ, zero, suc, ◌+◌, false, List, [], ◌∷◌, ◌++◌, length, map, Option, Some, None, Result, Ok, Err, IsErrAnd, refl, sym, ◌∙◌, ap, subst, arith, append_assoc, length-append}
-use Rattle.std.specs.Prelude.{slice_get}
-use Rattle.std.proofs.lemmas.List.{map-append, append-nil, length-map}
+-- Main, from one request to the next.
+use Rattle.std.proofs.Common.{◌≡◌, ◌≢◌, ℕ, suc, ◌<◌, ◌≤◌, true, false, List, [], ◌∷◌, ◌++◌, length, map, Result, Ok, Err, IsErrAnd, refl, sym, ◌∙◌, ap, subst, arith, append_assoc, length-append}
+use Rattle.std.specs.Prelude.{nat_eq}
+use Rattle.std.proofs.lemmas.List.{append-nil}
+use Rattle.std.proofs.lemmas.List.Elements.{filter-append}
 use Rattle.std.proofs.lemmas.Grind.{flat_map-append}
+use Rattle.std.proofs.lemmas.Bool.Decides.{nat_tests}
 use Rattle.flow_base.specs.declared.value.Value.{Value, out-Value}
 use Rattle.flow_base.specs.declared.value.Value.TheVariants as v
 use Rattle.flow_base.specs.declared.outcome.Exception.{Exception}
-use Rattle.flow_base.specs.declared.outcome.Exception.TheVariants as x
-use Rattle.flow_base.specs.declared.outcome.Outcome.{Outcome}
-use Rattle.flow_base.specs.declared.outcome.Outcome.TheVariants as o
-use Rattle.flow_base.specs.declared.outcome.TaskEnd.{TaskEnd}
 use Rattle.flow_base.specs.declared.outcome.Ended.{Ended}
-use Rattle.flow_base.specs.declared.outcome.Evaluation.{Evaluation}
+use Rattle.flow_base.specs.declared.outcome.Ended.TheVariants as ended
 use Rattle.flow_base.specs.Values.{units}
-use Rattle.script_tree.specs.declared.tree.AppDef.{AppDef}
 use Rattle.script_tree.specs.Grammar.{Tree}
 use Rattle.flow_meaning.specs.declared.walk.Request.{Request}
 use Rattle.flow_meaning.specs.declared.walk.Request.TheVariants as request
 use Rattle.flow_meaning.specs.declared.walk.Answer.{Answer}
 use Rattle.flow_meaning.specs.declared.walk.Answer.TheVariants as answer
 use Rattle.flow_meaning.specs.Act.{Act, Give, Throw, Ask, after}
-use Rattle.flow_meaning.specs.Evaluations.{task_end, evaluation_in}
-use Rattle.flow_meaning.specs.Inputs.{Path, inputs, path_in}
+use Rattle.flow_meaning.specs.Inputs.{Path, path_in}
 use Rattle.flow_meaning.specs.Meaning.{Done}
 use Rattle.flow_meaning.specs.Operators.{Text}
-use Rattle.flow_meaning.specs.Sequential.{Task, Tasks, Ran, Rule, Made, Main, MainAct, Calls, Waits, Prints, Checkpoints, perform, outcome_at, settles, runs, by_rules, rule, main_answer, waits, outcome_answer, main_room, at_start, main_ran, sequential, seq}
+use Rattle.flow_meaning.specs.Sequential.{Task, Tasks, Rule, Made, Main, MainAct, Calls, Waits, Prints, Checkpoints, perform, outcome_answer, rule, main_answer, waits, main_room, at_start, main_ran, sequential, seq}
 use Rattle.flow_meaning.specs.Walk.{main_act}
-use Rattle.dependency_graph.specs.declared.readiness.Readiness.{Readiness}
-use Rattle.dependency_graph.specs.declared.readiness.Readiness.TheVariants as readiness
-use Rattle.dependency_graph.specs.Readiness.{ready, rest_of_rule, by_rules-ready}
-use Rattle.call_rules.specs.Calls.{Losses, child, found}
-use Rattle.call_rules.specs.PlainScripts.{NoJoins}
-use Rattle.call_rules.proofs.Agreeing.{Agree, ready-agrees}
-use Rattle.call_rules.proofs.Tasks.{Keeps, found-front, found-behind, found-first, found-other, child-same}
-use Rattle.stored_units.specs.declared.units.Limit.{Limit}
-use Rattle.stored_units.specs.declared.units.Limit.TheVariants as limit
-use Rattle.stored_units.specs.Stored.{call_units, outcome_units}
-use Rattle.stored_units.specs.Totals.{Storing, Submits, Stores, first_limit, storings, storings_of_act, limit_met}
+use Rattle.body_requests.specs.Asks.{Each}
+use Rattle.call_rules.specs.Calls.{Losses, child}
+use Rattle.call_rules.specs.Groups.{IsUnder}
+use Rattle.call_rules.proofs.Plain.{each-map}
+use Rattle.stored_units.specs.Totals.{Storing, Stores, storings_in, begins_with, tasks_at, storings, storings_of_act, first_limit, limit_met}
 use Rattle.app_eval.specs.declared.running.Want.TheVariants as want
 use Rattle.app_eval.specs.Walks.{first_want}
-use Rattle.script_eval.specs.declared.progress.Progress.{Progress}
+use Rattle.join_apps.specs.Bodies.{result_of}
+use Rattle.script_eval.specs.declared.state.EvalState.{EvalState}
 use Rattle.script_eval.specs.declared.evaluation.EvalFault.{EvalFault}
-use Rattle.script_eval.specs.declared.evaluation.EvalFault.TheVariants.{TaskLimit, StoreLimit, NoMemory}
 use Rattle.script_eval.specs.Faults.{Meets}
-use Rattle.script_eval.specs.Evaluating.{Evaluates}
-use Rattle.script_eval.specs.Answering.{Answers, tasks_from, known, plain_outcome, next_outcome, next_end, wait_answer, limit_behind, stored_for, answer_for, after_request, ending_from, evaluation_of}
-use Rattle.script_eval.proofs.Limits.{met-first, submits-room, stores-room, submits-on, stores-on}
+use Rattle.script_eval.specs.Answering.{shown, settled_from, limit_behind, Added, CanCall, Free, made_by, MainAnswers, MainGives, made_for, printed_for, stored_for, main_answer_for, wait_answer, calls_after, main_performed, IsEmpty}
+use Rattle.script_eval.proofs.Calling.{can-more, meets-more, meets-same}
+use Rattle.script_eval.proofs.Joining.{added-both, made-same, asked}
+use Rattle.script_eval.proofs.Looking.{Alike, known-added}
+use Rattle.script_eval.proofs.Under.{AreUnder, IsBelow, rule-below, under-makes}
 
--- ---- the rule of a call of an app that isn't a join
+-- ---- the tasks of one call of main
 
-module _ (apps : List AppDef) (main_losses : Losses) (plain : (k : ℕ) (app : AppDef) → slice_get apps k ≡ Some app → app.join ≡ false) where
-  by_app : (room : ℕ) (below : Rule) (path : Path) (app : ℕ) (a : Option AppDef) (values : List Value) (names : List Text) → slice_get apps app ≡ a
-      → runs apps main_losses room below path a values names ≡ settles (plain_outcome main_losses path a names (readiness.Runs values))
-  by_app zero below path app None values names is = refl
-  by_app (suc room) below path app None values names is = refl
-  by_app zero below path app (Some a) values names is = rw (plain app a is) refl
-  by_app (suc room) below path app (Some a) values names is = rw (plain app a is) refl
+eq_true : (x y : ℕ) → x ≡ y → nat_eq x y ≡ true
+eq_true x y is = grind (arith, nat_tests)
 
-  by_ready : (room : ℕ) (below : Rule) (path : Path) (app : ℕ) (names : List Text) (r : Readiness)
-      → rest_of_rule apps main_losses room below path app names r ≡ settles (plain_outcome main_losses path (slice_get apps app) names r)
-  by_ready room below path app names (readiness.Settles exception) = refl
-  by_ready room below path app names (readiness.Runs values) = by_app room below path app (slice_get apps app) values names refl
+eq_false : (x y : ℕ) → x ≢ y → nat_eq x y ≡ false
+eq_false x y ne = grind (arith, nat_tests)
 
-  by-plain : (room : ℕ) (below : Rule) (path : Path) (app : ℕ) (arguments : List Value) (names : List Text) (ts : Tasks)
-      → by_rules apps main_losses room below path app arguments names ts ≡ settles (plain_outcome main_losses path (slice_get apps app) names (ready ts arguments))
-  by-plain room below path app arguments names ts =
-      by_rules-ready apps main_losses room below path app names ts arguments ∙ by_ready room below path app names (ready ts arguments)
+-- below the call of this number
+record IsAt (k : ℕ) (p : Path) : Type 0 where
+  rest : Path
+  is : p ≡ suc k ∷ rest
 
-  rule-plain : (room : ℕ) (path : Path) (app : ℕ) (arguments : List Value) (names : List Text) (ts : Tasks)
-      → rule apps main_losses room path app arguments names ts ≡ settles (plain_outcome main_losses path (slice_get apps app) names (ready ts arguments))
-  rule-plain zero path app arguments names ts = by-plain zero (λ p a vs ns us. settles (o.Failed x.DepthError)) path app arguments names ts
-  rule-plain (suc room) path app arguments names ts = by-plain (suc room) (rule apps main_losses room) path app arguments names ts
+abbrev AreAt : ℕ → Tasks → Type 0
+AreAt k ts = Each (λ (t : Task). IsAt k t.path) ts
 
--- ---- tasks by their numbers
+begins_here : (k : ℕ) (p : Path) → IsAt k p → begins_with (child [] k) p ≡ true
+begins_here k p at = rw (at.is, eq_true (suc k) (suc k) refl) refl
 
-abbrev pub Numbered : ℕ → Tasks → Type 0
-Numbered k [] = Unit {0}
-Numbered k (t ∷ ts) = (t.path ≡ child [] k) × Numbered (suc k) ts
+begins_elsewhere : (k n : ℕ) (p : Path) → k ≢ n → IsAt n p → begins_with (child [] k) p ≡ false
+begins_elsewhere k n p ne at = let other : suc k ≢ suc n = (λ same. ne (omega arith)) in rw (at.is, eq_false (suc k) (suc n) other) refl
 
-numbered_more : (k : ℕ) (ts : Tasks) (t : Task) (i : ℕ) → i ≡ k + length ts → Numbered k ts → t.path ≡ child [] i → Numbered k (ts ++ t ∷ [])
-numbered_more k [] t i at numbered is = (is ∙ ap (child []) (let same : i ≡ k = omega arith in same), tt)
-numbered_more k (s ∷ ts) t i at numbered is = (numbered.0, numbered_more (suc k) ts t i (omega arith) numbered.1 is)
+all_at : (k : ℕ) (ts : Tasks) → AreAt k ts → tasks_at (child [] k) ts ≡ ts
+all_at k [] at = refl
+all_at k (t ∷ ts) at = rw (begins_here k t.path at.0, all_at k ts at.1) refl
 
-none_there : (k : ℕ) (ts : Tasks) (i : ℕ) → i ≡ k + length ts → Numbered k ts → found ts (child [] i) ≡ None
-none_there k [] i at numbered = refl
-none_there k (s ∷ ts) i at numbered =
-    found-other s ts (child [] i) (λ same. let equal : k ≡ i = child-same [] k i (sym numbered.0 ∙ same) in absurd (omega arith))
-    ∙ none_there (suc k) ts i (omega arith) numbered.1
+none_at : (k n : ℕ) (ts : Tasks) → k ≢ n → AreAt n ts → tasks_at (child [] k) ts ≡ []
+none_at k n [] ne at = refl
+none_at k n (t ∷ ts) ne at = rw (begins_elsewhere k n t.path ne at.0, none_at k n ts ne at.1) refl
 
-new_there : (ts : Tasks) (t : Task) (i : ℕ) → i ≡ length ts → Numbered 0 ts → t.path ≡ child [] i → found (ts ++ t ∷ []) (child [] i) ≡ Some t
-new_there ts t i at numbered is =
-    found-behind ts (t ∷ []) (child [] i) (none_there 0 ts i (omega arith) numbered)
-    ∙ ap (found (t ∷ [])) (sym is) ∙ found-first t []
+none_under : (k n : ℕ) (ts : Tasks) → n ≤ k → AreUnder [] n ts → tasks_at (child [] k) ts ≡ []
+none_under k n [] le under = refl
+none_under k n (t ∷ ts) le under =
+    let u = under.0 in
+    rw (begins_elsewhere k u.number t.path (λ same. let lt = u.below in absurd (omega arith)) (record { rest = u.rest; is = u.is }), none_under k n ts le under.1) refl
 
--- what is known by the ends is known of the tasks
-same_outcome : (apps : List AppDef) (k : ℕ) (ts : Tasks) (p : Path) → Numbered k ts → outcome_at (tasks_from k (map (task_end apps) ts)) p ≡ outcome_at ts p
-same_outcome apps k [] p numbered = refl
-same_outcome apps k (t ∷ ts) p numbered = rw (same_outcome apps (suc k) ts p numbered.1, numbered.0) refl
+made_at : (r : Rule) → IsBelow r → (n app : ℕ) (arguments : List Value) (names : List Text) (known : Tasks) → AreAt n (made_by r [] n app arguments names known)
+made_at r below n app arguments names known =
+    let made = below (child [] n) app arguments names known in
+    (record { rest = []; is = refl }, each-map (λ (t : Task). IsUnder (child [] n) made.calls t.path) (λ (t : Task). IsAt n t.path) (λ t u. record { rest = suc u.number ∷ u.rest; is = u.is }) (r (child [] n) app arguments names known).below made.under)
 
-all_agree : (ts us : Tasks) → ((p : Path) → outcome_at ts p ≡ outcome_at us p) → (ps : List Path) → Agree ts us ps
-all_agree ts us same [] = tt
-all_agree ts us same (p ∷ ps) = (same p, all_agree ts us same ps)
+-- ---- main as a caller
+
+pub can-at : (p : Path) (first calls : ℕ) (s : EvalState) → p ≡ [] → first ≡ 0 → CanCall [] 0 calls s → CanCall p first calls s
+can-at p first calls s here is can = subst (λ (n : ℕ). CanCall p n calls s) (sym is) (subst (λ (q : Path). CanCall q 0 calls s) (sym here) can)
+
+pub short-at : (p : Path) → p ≡ [] → length p < 64
+short-at p here = let none = ap (length {A = ℕ}) here in omega arith
 
 -- ---- the evaluation
 
@@ -111,13 +97,16 @@ module _ (tree : Tree) (losses : Losses) where
   abbrev pub answers : Request → Main → Answer × Main
   answers = main_answer main_rule
 
-  abbrev pub new_outcome : Main → ℕ → List Value → List Text → Outcome
-  new_outcome m app arguments names = (main_rule (child [] m.made.calls) app arguments names m.made.tasks).outcome
+  below_main : IsBelow main_rule
+  below_main = rule-below tree.0 losses main_room
+
+  abbrev pub new_tasks : Request → Main → Tasks
+  new_tasks (request.Call app arguments names) m = made_by main_rule [] m.made.calls app arguments names m.made.tasks
+  new_tasks _ m = []
 
   abbrev pub stored_at : Request → Main → List Storing
-  stored_at (request.Call app arguments names) m = Submits (call_units arguments names) ∷ Stores (outcome_units (new_outcome m app arguments names)) ∷ []
   stored_at (request.Print value) m = Stores (units value) ∷ []
-  stored_at _ m = []
+  stored_at w m = storings_in [] (new_tasks w m)
 
   -- what is stored from an act on
   abbrev pub stored_in : Act Done → Main → List Storing
@@ -125,273 +114,259 @@ module _ (tree : Tree) (losses : Losses) where
   stored_in (Throw exception) m = []
   stored_in (Ask w go) m = stored_at w m ++ stored_in (go (answers w m).0) (answers w m).1
 
-  -- the calls are numbered
-  pub record IsNumbered (m : Main) : Type 0 where
-    pub calls : m.made.calls ≡ length m.made.tasks
-    pub numbered : Numbered 0 m.made.tasks
+  waits-made : (m : Main) (ps : List Path) → (waits m ps).1.made ≡ m.made
+  waits-made m [] = refl
+  waits-made m (p ∷ ps) = refl
 
-  pub record Stands (act : Act Done) (p : Progress) : Type 0 where
-    pub m : Main
-    pub is-numbered : IsNumbered m
-    pub ends : p.ends ≡ map (task_end tree.0) m.made.tasks
-    pub printed : p.printed ≡ m.printed
-    pub performs : perform answers (main_act tree) at_start ≡ perform answers act m
-    pub limit : limit_met (seq tree.0 tree.1 losses) ≡ limit_behind p (stored_in act m)
+  waits-printed : (m : Main) (ps : List Path) → (waits m ps).1.printed ≡ m.printed
+  waits-printed m [] = refl
+  waits-printed m (p ∷ ps) = refl
 
-  module _ (plain : NoJoins tree) where
-    settled : (path : Path) (app : ℕ) (arguments : List Value) (names : List Text) (ts : Tasks) → main_rule path app arguments names ts ≡ settles (plain_outcome losses path (slice_get tree.0 app) names (ready ts arguments))
-    settled path app arguments names ts = rule-plain tree.0 losses plain main_room path app arguments names ts
+  -- what main made once it was answered
+  made-on : (w : Request) (m : Main) → (answers w m).1.made ≡ record { calls = calls_after tree losses w m.made.calls; tasks = m.made.tasks ++ new_tasks w m }
+  made-on (request.Call app arguments names) m = refl
+  made-on (request.WaitValue f) m = waits-made m (path_in (out-Value f)) ∙ sym (ap (λ (ts : Tasks). record { calls = m.made.calls; tasks = ts }) (append-nil m.made.tasks))
+  made-on (request.WaitName f) m = waits-made m (path_in (out-Value f)) ∙ sym (ap (λ (ts : Tasks). record { calls = m.made.calls; tasks = ts }) (append-nil m.made.tasks))
+  made-on (request.Print value) m = sym (ap (λ (ts : Tasks). record { calls = m.made.calls; tasks = ts }) (append-nil m.made.tasks))
+  made-on request.Checkpoint m = sym (ap (λ (ts : Tasks). record { calls = m.made.calls; tasks = ts }) (append-nil m.made.tasks))
 
-    -- main's next task
-    abbrev with_outcome : Main → ℕ → List Value → List Text → Outcome → Task
-    with_outcome m app arguments names outcome = record { path = child [] m.made.calls; app = app; arguments = arguments; names = names; inputs = inputs arguments; outcome = outcome }
+  printed-on : (w : Request) (m : Main) → (answers w m).1.printed ≡ m.printed ++ printed_for tree losses w
+  printed-on (request.Call app arguments names) m = sym (append-nil m.printed)
+  printed-on (request.WaitValue f) m = waits-printed m (path_in (out-Value f)) ∙ sym (append-nil m.printed)
+  printed-on (request.WaitName f) m = waits-printed m (path_in (out-Value f)) ∙ sym (append-nil m.printed)
+  printed-on (request.Print value) m = refl
+  printed-on request.Checkpoint m = sym (append-nil m.printed)
 
-    abbrev new_task : Main → ℕ → List Value → List Text → Task
-    new_task m app arguments names = with_outcome m app arguments names (new_outcome m app arguments names)
+  under-made : (m : Main) (n : Made) → m.made ≡ n → AreUnder [] n.calls n.tasks → AreUnder [] m.made.calls m.made.tasks
+  under-made m n is under = subst (λ (x : Made). AreUnder [] x.calls x.tasks) (sym is) under
 
-    made-one : (m : Main) (app : ℕ) (arguments : List Value) (names : List Text)
-        → (answers (request.Call app arguments names) m).1.made.tasks ≡ m.made.tasks ++ new_task m app arguments names ∷ []
-    made-one m app arguments names =
-        let is = settled (child [] m.made.calls) app arguments names m.made.tasks in
-        ap (λ (r : Ran). m.made.tasks ++ with_outcome m app arguments names r.outcome ∷ r.below) is
-        ∙ sym (ap (λ (r : Ran). m.made.tasks ++ with_outcome m app arguments names r.outcome ∷ []) is)
+  under-on : (w : Request) (m : Main) → AreUnder [] m.made.calls m.made.tasks → AreUnder [] (answers w m).1.made.calls (answers w m).1.made.tasks
+  under-on (request.Call app arguments names) m under = under-makes main_rule below_main [] app arguments names m.made under
+  under-on (request.WaitValue f) m under = under-made (waits m (path_in (out-Value f))).1 m.made (waits-made m (path_in (out-Value f))) under
+  under-on (request.WaitName f) m under = under-made (waits m (path_in (out-Value f))).1 m.made (waits-made m (path_in (out-Value f))) under
+  under-on (request.Print value) m under = under
+  under-on request.Checkpoint m under = under
 
-    numbered-call : (m : Main) (app : ℕ) (arguments : List Value) (names : List Text) → IsNumbered m → IsNumbered (answers (request.Call app arguments names) m).1
-    numbered-call m app arguments names is = record {
-      calls = let one = ap (length {A = Task}) (made-one m app arguments names) in let more = length-append m.made.tasks (new_task m app arguments names ∷ []) in let before = is.calls in omega arith;
-      numbered = rw (made-one m app arguments names) (numbered_more 0 m.made.tasks (new_task m app arguments names) m.made.calls (let before = is.calls in omega arith) is.numbered refl);
-    }
+  more-calls : (w : Request) (m : Main) → m.made.calls ≤ (answers w m).1.made.calls
+  more-calls (request.Call app arguments names) m = omega arith
+  more-calls (request.WaitValue f) m = let same = ap (λ (n : Made). n.calls) (waits-made m (path_in (out-Value f))) in omega arith
+  more-calls (request.WaitName f) m = let same = ap (λ (n : Made). n.calls) (waits-made m (path_in (out-Value f))) in omega arith
+  more-calls (request.Print value) m = omega arith
+  more-calls request.Checkpoint m = omega arith
 
-    waits-made : (m : Main) (ps : List Path) → (waits m ps).1.made ≡ m.made
-    waits-made m [] = refl
-    waits-made m (p ∷ ps) = refl
+  -- ---- the tasks of a call stay
 
-    numbered-same : (m n : Main) → n.made ≡ m.made → IsNumbered m → IsNumbered n
-    numbered-same m n same is = record { calls = rw same is.calls; numbered = rw same is.numbered }
+  new_elsewhere : (w : Request) (m : Main) (k : ℕ) → k < m.made.calls → tasks_at (child [] k) (new_tasks w m) ≡ []
+  new_elsewhere (request.Call app arguments names) m k lt = none_at k m.made.calls (made_by main_rule [] m.made.calls app arguments names m.made.tasks) (λ same. absurd (omega arith)) (made_at main_rule below_main m.made.calls app arguments names m.made.tasks)
+  new_elsewhere (request.WaitValue f) m k lt = refl
+  new_elsewhere (request.WaitName f) m k lt = refl
+  new_elsewhere (request.Print value) m k lt = refl
+  new_elsewhere request.Checkpoint m k lt = refl
 
-    numbered-on : (w : Request) (m : Main) → IsNumbered m → IsNumbered (answers w m).1
-    numbered-on (request.Call app arguments names) m is = numbered-call m app arguments names is
-    numbered-on (request.WaitValue f) m is = numbered-same m _ (waits-made m (path_in (out-Value f))) is
-    numbered-on (request.WaitName f) m is = numbered-same m _ (waits-made m (path_in (out-Value f))) is
-    numbered-on (request.Print value) m is = numbered-same m _ refl is
-    numbered-on request.Checkpoint m is = numbered-same m _ refl is
+  stays-on : (w : Request) (m : Main) (k : ℕ) → k < m.made.calls → tasks_at (child [] k) (answers w m).1.made.tasks ≡ tasks_at (child [] k) m.made.tasks
+  stays-on w m k lt =
+      ap (λ (n : Made). tasks_at (child [] k) n.tasks) (made-on w m)
+      ∙ filter-append (λ (t : Task). begins_with (child [] k) t.path) m.made.tasks (new_tasks w m)
+      ∙ ap (λ (ts : Tasks). tasks_at (child [] k) m.made.tasks ++ ts) (new_elsewhere w m k lt)
+      ∙ append-nil (tasks_at (child [] k) m.made.tasks)
 
-    -- ---- tasks that are there stay
+  stays : (act : Act Done) (m : Main) (k : ℕ) → k < m.made.calls → tasks_at (child [] k) (perform answers act m).1.made.tasks ≡ tasks_at (child [] k) m.made.tasks
+  stays (Give d) m k lt = refl
+  stays (Throw exception) m k lt = refl
+  stays (Ask w go) m k lt =
+      stays (go (answers w m).0) (answers w m).1 k (let more = more-calls w m in omega arith) ∙ stays-on w m k lt
 
-    keeps-same : (ts us : Tasks) → us ≡ ts → Keeps ts us
-    keeps-same ts us same p t h = rw same h
+  -- ---- what the whole stores
 
-    keeps-on : (w : Request) (m : Main) → Keeps m.made.tasks (answers w m).1.made.tasks
-    keeps-on (request.Call app arguments names) m p t h = rw (made-one m app arguments names) (found-front m.made.tasks (new_task m app arguments names ∷ []) p t h)
-    keeps-on (request.WaitValue f) m p t h = rw (waits-made m (path_in (out-Value f))) h
-    keeps-on (request.WaitName f) m p t h = rw (waits-made m (path_in (out-Value f))) h
-    keeps-on (request.Print value) m p t h = h
-    keeps-on request.Checkpoint m p t h = h
+  one_act : (ts : Tasks) (acts : List MainAct) (act : MainAct) (xs : List Storing) → storings_of_act ts act ≡ xs → storings ts (acts ++ act ∷ []) ≡ storings ts acts ++ xs
+  one_act ts acts act xs is = flat_map-append (storings_of_act ts) acts (act ∷ []) ∙ ap (λ (ys : List Storing). storings ts acts ++ ys) (append-nil (storings_of_act ts act) ∙ is)
 
-    kept : (act : Act Done) (m : Main) → Keeps m.made.tasks (perform answers act m).1.made.tasks
-    kept (Give d) m p t h = h
-    kept (Throw exception) m p t h = h
-    kept (Ask w go) m p t h = kept (go (answers w m).0) (answers w m).1 p t (keeps-on w m p t h)
+  no_act : (ts : Tasks) (acts : List MainAct) → storings ts acts ≡ storings ts acts ++ []
+  no_act ts acts = sym (append-nil (storings ts acts))
 
-    -- ---- what the whole stores
+  wait_stored : (ts : Tasks) (m : Main) (ps : List Path) → storings ts (waits m ps).1.acts ≡ storings ts m.acts ++ []
+  wait_stored ts m [] = no_act ts m.acts
+  wait_stored ts m (p ∷ ps) = one_act ts m.acts (Waits p) [] refl
 
-    one_act : (ts : Tasks) (acts : List MainAct) (act : MainAct) (xs : List Storing) → storings_of_act ts act ≡ xs → storings ts (acts ++ act ∷ []) ≡ storings ts acts ++ xs
-    one_act ts acts act xs is = flat_map-append (storings_of_act ts) acts (act ∷ []) ∙ ap (λ (ys : List Storing). storings ts acts ++ ys) (append-nil (storings_of_act ts act) ∙ is)
+  one-stored : (w : Request) (m : Main) (ts : Tasks) → AreUnder [] m.made.calls m.made.tasks → ((k : ℕ) → k < (answers w m).1.made.calls → tasks_at (child [] k) ts ≡ tasks_at (child [] k) (answers w m).1.made.tasks)
+      → storings ts (answers w m).1.acts ≡ storings ts m.acts ++ stored_at w m
+  one-stored (request.Call app arguments names) m ts under stay =
+      let new = made_by main_rule [] m.made.calls app arguments names m.made.tasks in
+      let here : tasks_at (child [] m.made.calls) ts ≡ new =
+      stay m.made.calls (omega arith)
+      ∙ filter-append (λ (t : Task). begins_with (child [] m.made.calls) t.path) m.made.tasks new
+      ∙ ap (λ (xs : Tasks). xs ++ tasks_at (child [] m.made.calls) new) (none_under m.made.calls m.made.calls m.made.tasks (omega arith) under)
+      ∙ all_at m.made.calls new (made_at main_rule below_main m.made.calls app arguments names m.made.tasks) in
+      one_act ts m.acts (Calls (child [] m.made.calls)) (storings_in [] new) (ap (storings_in []) here)
+  one-stored (request.WaitValue f) m ts under stay = wait_stored ts m (path_in (out-Value f))
+  one-stored (request.WaitName f) m ts under stay = wait_stored ts m (path_in (out-Value f))
+  one-stored (request.Print value) m ts under stay = one_act ts m.acts (Prints value) (Stores (units value) ∷ []) refl
+  one-stored request.Checkpoint m ts under stay = one_act ts m.acts Checkpoints [] refl
 
-    no_act : (ts : Tasks) (acts : List MainAct) → storings ts acts ≡ storings ts acts ++ []
-    no_act ts acts = sym (append-nil (storings ts acts))
+  whole-stored : (act : Act Done) (m : Main) → AreUnder [] m.made.calls m.made.tasks
+      → storings (perform answers act m).1.made.tasks (perform answers act m).1.acts ≡ storings (perform answers act m).1.made.tasks m.acts ++ stored_in act m
+  whole-stored (Give d) m under = no_act m.made.tasks m.acts
+  whole-stored (Throw exception) m under = no_act m.made.tasks m.acts
+  whole-stored (Ask w go) m under =
+      let r = answers w m in
+      let ts = (perform answers (go r.0) r.1).1.made.tasks in
+      whole-stored (go r.0) r.1 (under-on w m under)
+      ∙ ap (λ (xs : List Storing). xs ++ stored_in (go r.0) r.1) (one-stored w m ts under (λ k lt. stays (go r.0) r.1 k lt))
+      ∙ append_assoc (storings ts m.acts) (stored_at w m) (stored_in (go r.0) r.1)
 
-    wait_stored : (ts : Tasks) (m : Main) (ps : List Path) → storings ts (waits m ps).1.acts ≡ storings ts m.acts ++ []
-    wait_stored ts m [] = no_act ts m.acts
-    wait_stored ts m (p ∷ ps) = one_act ts m.acts (Waits p) [] refl
+  ran-is : main_ran tree.0 tree.1 losses ≡ main_performed tree losses
+  unfolding main_ran
+  ran-is = refl
 
-    one-stored : (w : Request) (m : Main) (ts : Tasks) → IsNumbered m → Keeps (answers w m).1.made.tasks ts → storings ts (answers w m).1.acts ≡ storings ts m.acts ++ stored_at w m
-    one-stored (request.Call app arguments names) m ts is keeps =
-        let there : found (answers (request.Call app arguments names) m).1.made.tasks (child [] m.made.calls) ≡ Some (new_task m app arguments names) =
-        rw (made-one m app arguments names) (new_there m.made.tasks (new_task m app arguments names) m.made.calls is.calls is.numbered refl) in
-        let kept : found ts (child [] m.made.calls) ≡ Some (new_task m app arguments names) = keeps (child [] m.made.calls) (new_task m app arguments names) there in
-        one_act ts m.acts (Calls (child [] m.made.calls)) (stored_at (request.Call app arguments names) m) (rw kept refl)
-    one-stored (request.WaitValue f) m ts is keeps = wait_stored ts m (path_in (out-Value f))
-    one-stored (request.WaitName f) m ts is keeps = wait_stored ts m (path_in (out-Value f))
-    one-stored (request.Print value) m ts is keeps = one_act ts m.acts (Prints value) (Stores (units value) ∷ []) refl
-    one-stored request.Checkpoint m ts is keeps = one_act ts m.acts Checkpoints [] refl
+  pub seq-is : seq tree.0 tree.1 losses ≡ sequential (main_performed tree losses)
+  unfolding seq
+  seq-is = ap sequential ran-is
 
-    whole-stored : (act : Act Done) (m : Main) → IsNumbered m
-        → storings (perform answers act m).1.made.tasks (perform answers act m).1.acts ≡ storings (perform answers act m).1.made.tasks m.acts ++ stored_in act m
-    whole-stored (Give d) m is = no_act m.made.tasks m.acts
-    whole-stored (Throw exception) m is = no_act m.made.tasks m.acts
-    whole-stored (Ask w go) m is =
-        let r = answers w m in
-        let ts = (perform answers (go r.0) r.1).1.made.tasks in
-        whole-stored (go r.0) r.1 (numbered-on w m is)
-        ∙ ap (λ (xs : List Storing). xs ++ stored_in (go r.0) r.1) (one-stored w m ts is (kept (go r.0) r.1))
-        ∙ append_assoc (storings ts m.acts) (stored_at w m) (stored_in (go r.0) r.1)
+  limit-is : limit_met (seq tree.0 tree.1 losses) ≡ first_limit 0 0 (stored_in (main_act tree) at_start)
+  limit-is = ap limit_met seq-is ∙ ap (first_limit 0 0) (whole-stored (main_act tree) at_start tt)
 
-    -- ---- at the beginning
+  -- ---- main's path and its first place
 
-    ran-is : main_ran tree.0 tree.1 losses ≡ perform answers (main_act tree) at_start
-    unfolding main_ran
-    ran-is = refl
+  pub main-at : (p : Path) (first calls : ℕ) (w : Request) (now next : EvalState) (r : Result Answer EvalFault) → p ≡ [] → first ≡ 0 → MainAnswers tree losses p first calls w now next r → MainAnswers tree losses [] 0 calls w now next r
+  main-at p first calls w now next r here is h =
+      subst (λ (n : ℕ). MainAnswers tree losses [] n calls w now next r) is (subst (λ (q : Path). MainAnswers tree losses q first calls w now next r) here h)
 
-    seq-is : seq tree.0 tree.1 losses ≡ sequential (perform answers (main_act tree) at_start)
-    unfolding seq
-    seq-is = ap sequential ran-is
+  -- ---- one request on
 
-    limit-is : limit_met (seq tree.0 tree.1 losses) ≡ first_limit 0 0 (stored_in (main_act tree) at_start)
-    limit-is = ap limit_met seq-is ∙ ap (first_limit 0 0) (whole-stored (main_act tree) at_start (record { calls = refl; numbered = tt }))
+  module _ (before : EvalState) where
+    pub record Stands (act : Act Done) (calls : ℕ) (now : EvalState) : Type 0 where
+      pub m : Main
+      pub xs : List Storing
+      pub same : calls ≡ m.made.calls
+      pub few : m.made.calls ≤ length m.made.tasks
+      pub under : AreUnder [] m.made.calls m.made.tasks
+      pub added : Added tree.0 m.made.tasks m.printed xs before now
+      pub performs : main_performed tree losses ≡ perform answers act m
+      pub limit : limit_met (seq tree.0 tree.1 losses) ≡ limit_behind now (stored_in act m)
 
-    pub stands-start : (act : Act Done) (p : Progress) → act ≡ main_act tree → p ≡ record { ends = []; printed = []; stored = 0 } → Stands act p
-    stands-start act p same is = rw (same, is) (record {
-      m = at_start;
-      is-numbered = record { calls = refl; numbered = tt };
-      ends = refl;
-      printed = refl;
-      performs = refl;
-      limit = limit-is;
-    })
+    module _ (empty : IsEmpty before) where
+      at_zero : (ys : List Storing) → first_limit 0 0 ys ≡ limit_behind before ys
+      at_zero ys = ap (λ (n : ℕ). first_limit n 0 ys) (sym (ap length empty.tasks)) ∙ ap (λ (n : ℕ). first_limit (length before.tasks.items) n ys) (sym empty.stored)
 
-    -- ---- one request on
+      can : CanCall [] 0 0 before
+      can = record {
+        even = ap length empty.places ∙ sym (ap length empty.tasks);
+        within = omega arith;
+        few = omega arith;
+        free = subst (Free [] 0) (sym empty.places) (λ k rest le. refl);
+      }
 
-    known-same : (m : Main) (p : Progress) → IsNumbered m → p.ends ≡ map (task_end tree.0) m.made.tasks → (path : Path) → outcome_at (known p) path ≡ outcome_at m.made.tasks path
-    known-same m p is ends path = ap (λ (es : List TaskEnd). outcome_at (tasks_from 0 es) path) ends ∙ same_outcome tree.0 0 m.made.tasks path is.numbered
+      pub stands-start : (act : Act Done) (calls : ℕ) → act ≡ main_act tree → calls ≡ 0 → Stands act calls before
+      stands-start act calls is none = record {
+        m = at_start;
+        xs = [];
+        same = none;
+        few = omega arith;
+        under = tt;
+        added = record { tasks = sym (append-nil before.tasks.items); places = sym (append-nil before.places); printed = sym (append-nil before.printed); limit = λ ys. refl };
+        performs = ap (λ (a : Act Done). perform answers a at_start) (sym is);
+        limit = limit-is ∙ ap (λ (a : Act Done). first_limit 0 0 (stored_in a at_start)) (sym is) ∙ at_zero (stored_in act at_start);
+      }
 
-    calls-same : (m : Main) (p : Progress) → IsNumbered m → p.ends ≡ map (task_end tree.0) m.made.tasks → length p.ends ≡ m.made.calls
-    calls-same m p is ends = ap length ends ∙ length-map m.made.tasks (task_end tree.0) ∙ sym is.calls
+      pub stands-can : (act : Act Done) (calls : ℕ) (now : EvalState) → Stands act calls now → CanCall [] 0 calls now
+      stands-can act calls now s =
+          subst (λ (n : ℕ). CanCall [] 0 n now) (sym s.same)
+          (can-more tree.0 s.m.made.tasks s.m.printed s.xs before now [] 0 s.m.made.calls can (sym (ap length empty.tasks)) s.few s.under s.added)
 
-    outcome-same : (m : Main) (p : Progress) (app : ℕ) (arguments : List Value) (names : List Text) → IsNumbered m → p.ends ≡ map (task_end tree.0) m.made.tasks
-        → next_outcome tree.0 losses p app arguments names ≡ new_outcome m app arguments names
-    outcome-same m p app arguments names is ends =
-        let agree : ready (known p) arguments ≡ ready m.made.tasks arguments = ready-agrees (known p) m.made.tasks arguments (all_agree (known p) m.made.tasks (known-same m p is ends) (inputs arguments)) in
-        ap (λ (k : ℕ). plain_outcome losses (child [] k) (slice_get tree.0 app) names (ready (known p) arguments)) (calls-same m p is ends)
-        ∙ ap (plain_outcome losses (child [] m.made.calls) (slice_get tree.0 app) names) agree
-        ∙ sym (ap (λ (r : Ran). r.outcome) (settled (child [] m.made.calls) app arguments names m.made.tasks))
+      known : (act : Act Done) (calls : ℕ) (now : EvalState) (s : Stands act calls now) → Alike (settled_from 0 now) s.m.made.tasks
+      known act calls now s = known-added tree.0 s.m.made.tasks s.m.printed s.xs before now 0 can.even (sym (ap length empty.tasks)) s.added
 
-    stored-same : (w : Request) (m : Main) (p : Progress) → IsNumbered m → p.ends ≡ map (task_end tree.0) m.made.tasks → stored_for tree.0 losses p w ≡ stored_at w m
-    stored-same (request.Call app arguments names) m p is ends = ap (λ (r : Outcome). Submits (call_units arguments names) ∷ Stores (outcome_units r) ∷ []) (outcome-same m p app arguments names is ends)
-    stored-same (request.WaitValue f) m p is ends = refl
-    stored-same (request.WaitName f) m p is ends = refl
-    stored-same (request.Print value) m p is ends = refl
-    stored-same request.Checkpoint m p is ends = refl
+      wait_same : (act : Act Done) (calls : ℕ) (now : EvalState) (s : Stands act calls now) (ps : List Path) → wait_answer tree losses (settled_from 0 now) ps ≡ (waits s.m ps).0
+      wait_same act calls now s [] = refl
+      wait_same act calls now s (p ∷ ps) = ap outcome_answer (known act calls now s p)
 
-    wait-same : (m : Main) (p : Progress) (ps : List Path) → IsNumbered m → p.ends ≡ map (task_end tree.0) m.made.tasks → wait_answer (known p) ps ≡ (waits m ps).0
-    wait-same m p [] is ends = refl
-    wait-same m p (path ∷ ps) is ends = ap outcome_answer (known-same m p is ends path)
+      answer_same : (w : Request) (act : Act Done) (calls : ℕ) (now : EvalState) (s : Stands act calls now) → main_answer_for tree losses [] calls w now ≡ (answers w s.m).0
+      answer_same (request.Call app arguments names) act calls now s = ap (λ (k : ℕ). answer.Called (v.Future (child [] k) (length names))) s.same
+      answer_same (request.WaitValue f) act calls now s = wait_same act calls now s (path_in (out-Value f))
+      answer_same (request.WaitName f) act calls now s = wait_same act calls now s (path_in (out-Value f))
+      answer_same (request.Print value) act calls now s = refl
+      answer_same request.Checkpoint act calls now s = refl
 
-    answer-same : (w : Request) (m : Main) (p : Progress) → IsNumbered m → p.ends ≡ map (task_end tree.0) m.made.tasks → answer_for tree.0 losses p w ≡ (answers w m).0
-    answer-same (request.Call app arguments names) m p is ends = ap (λ (k : ℕ). answer.Called (v.Future (child [] k) (length names))) (calls-same m p is ends)
-    answer-same (request.WaitValue f) m p is ends = wait-same m p (path_in (out-Value f)) is ends
-    answer-same (request.WaitName f) m p is ends = wait-same m p (path_in (out-Value f)) is ends
-    answer-same (request.Print value) m p is ends = refl
-    answer-same request.Checkpoint m p is ends = refl
+      tasks_same : (w : Request) (act : Act Done) (calls : ℕ) (now : EvalState) (s : Stands act calls now) → made_for tree losses [] 0 calls w now ≡ new_tasks w s.m
+      tasks_same (request.Call app arguments names) act calls now s = made-same tree losses [] calls s.m.made.calls app arguments names _ _ s.same (known act calls now s)
+      tasks_same (request.WaitValue f) act calls now s = refl
+      tasks_same (request.WaitName f) act calls now s = refl
+      tasks_same (request.Print value) act calls now s = refl
+      tasks_same request.Checkpoint act calls now s = refl
 
-    end-same : (m : Main) (p : Progress) (app : ℕ) (arguments : List Value) (names : List Text) → IsNumbered m → p.ends ≡ map (task_end tree.0) m.made.tasks
-        → next_end tree.0 losses p app arguments names ≡ task_end tree.0 (new_task m app arguments names)
-    end-same m p app arguments names is ends = rw (outcome-same m p app arguments names is ends, calls-same m p is ends) refl
+      stored_same : (w : Request) (act : Act Done) (calls : ℕ) (now : EvalState) (s : Stands act calls now) → stored_for tree losses [] 0 calls w now ≡ stored_at w s.m
+      stored_same (request.Call app arguments names) act calls now s = ap (storings_in []) (tasks_same (request.Call app arguments names) act calls now s)
+      stored_same (request.WaitValue f) act calls now s = refl
+      stored_same (request.WaitName f) act calls now s = refl
+      stored_same (request.Print value) act calls now s = refl
+      stored_same request.Checkpoint act calls now s = refl
 
-    ends-on : (w : Request) (m : Main) (p : Progress) → IsNumbered m → p.ends ≡ map (task_end tree.0) m.made.tasks → (after_request tree.0 losses p w).ends ≡ map (task_end tree.0) (answers w m).1.made.tasks
-    ends-on (request.Call app arguments names) m p is ends =
-        ap (λ (es : List TaskEnd). es ++ next_end tree.0 losses p app arguments names ∷ []) ends
-        ∙ ap (λ (e : TaskEnd). map (task_end tree.0) m.made.tasks ++ e ∷ []) (end-same m p app arguments names is ends)
-        ∙ sym (ap (map (task_end tree.0)) (made-one m app arguments names) ∙ map-append (task_end tree.0) m.made.tasks (new_task m app arguments names ∷ []))
-    ends-on (request.WaitValue f) m p is ends = ends ∙ sym (ap (λ (made : Made). map (task_end tree.0) made.tasks) (waits-made m (path_in (out-Value f))))
-    ends-on (request.WaitName f) m p is ends = ends ∙ sym (ap (λ (made : Made). map (task_end tree.0) made.tasks) (waits-made m (path_in (out-Value f))))
-    ends-on (request.Print value) m p is ends = ends
-    ends-on request.Checkpoint m p is ends = ends
+      few_on : (w : Request) (m : Main) → m.made.calls ≤ length m.made.tasks → calls_after tree losses w m.made.calls ≤ length (m.made.tasks ++ new_tasks w m)
+      few_on (request.Call app arguments names) m few = let long = length-append m.made.tasks (new_tasks (request.Call app arguments names) m) in omega arith
+      few_on (request.WaitValue f) m few = let long = length-append m.made.tasks [] in omega arith
+      few_on (request.WaitName f) m few = let long = length-append m.made.tasks [] in omega arith
+      few_on (request.Print value) m few = let long = length-append m.made.tasks [] in omega arith
+      few_on request.Checkpoint m few = let long = length-append m.made.tasks [] in omega arith
 
-    waits-printed : (m : Main) (ps : List Path) → (waits m ps).1.printed ≡ m.printed
-    waits-printed m [] = refl
-    waits-printed m (p ∷ ps) = refl
+      step : (w : Request) (go : Answer → Act Done) (a : Answer) (calls : ℕ) (now next : EvalState) → Stands (Ask w go) calls now → MainAnswers tree losses [] 0 calls w now next (Ok a) → Stands (go a) (calls_after tree losses w calls) next
+      step w go a calls now next s h =
+          let r = answers w s.m in
+          let told : a ≡ r.0 = h.0 ∙ answer_same w (Ask w go) calls now s in
+          let made = made-on w s.m in
+          let tasks : made_for tree losses [] 0 calls w now ≡ new_tasks w s.m = tasks_same w (Ask w go) calls now s in
+          let stored = stored_same w (Ask w go) calls now s in
+          let more : Added tree.0 (new_tasks w s.m) (printed_for tree losses w) (stored_at w s.m) now next =
+          subst (λ (ys : List Storing). Added tree.0 (new_tasks w s.m) (printed_for tree losses w) ys now next) stored
+          (subst (λ (ts : Tasks). Added tree.0 ts (printed_for tree losses w) (stored_for tree losses [] 0 calls w now) now next) tasks h.1) in
+          let both = added-both tree.0 s.m.made.tasks (new_tasks w s.m) s.m.printed (printed_for tree losses w) s.xs (stored_at w s.m) before now next s.added more in
+          record {
+            m = r.1;
+            xs = s.xs ++ stored_at w s.m;
+            same = ap (calls_after tree losses w) s.same ∙ sym (ap (λ (n : Made). n.calls) made);
+            few = subst (λ (n : Made). n.calls ≤ length n.tasks) (sym made) (few_on w s.m s.few);
+            under = under-on w s.m s.under;
+            added = subst (λ (n : Made). Added tree.0 n.tasks r.1.printed (s.xs ++ stored_at w s.m) before next) (sym made)
+                (subst (λ (ps : List Value). Added tree.0 (s.m.made.tasks ++ new_tasks w s.m) ps (s.xs ++ stored_at w s.m) before next) (sym (printed-on w s.m)) both);
+            performs = s.performs ∙ ap (λ (b : Answer). perform answers (go b) r.1) (sym told);
+            limit = s.limit ∙ more.limit (stored_in (go r.0) r.1) ∙ ap (λ (b : Answer). limit_behind next (stored_in (go b) r.1)) (sym told);
+          }
 
-    printed-on : (w : Request) (m : Main) (p : Progress) → p.printed ≡ m.printed → (after_request tree.0 losses p w).printed ≡ (answers w m).1.printed
-    printed-on (request.Call app arguments names) m p printed = printed
-    printed-on (request.WaitValue f) m p printed = printed ∙ sym (waits-printed m (path_in (out-Value f)))
-    printed-on (request.WaitName f) m p printed = printed ∙ sym (waits-printed m (path_in (out-Value f)))
-    printed-on (request.Print value) m p printed = ap (λ (vs : List Value). vs ++ value ∷ []) printed
-    printed-on request.Checkpoint m p printed = printed
+      pub stands-on : (act left : Act Done) (w : Request) (a : Answer) (calls : ℕ) (now next : EvalState) → Stands act calls now → want.Asks w ≡ first_want act → left ≡ act
+          → MainAnswers tree losses [] 0 calls w now next (Ok a) → Stands (after left (a ∷ [])) (calls_after tree losses w calls) next
+      stands-on act left w a calls now next s wants same h =
+          let ask = asked act w wants in
+          let stands : Stands (Ask w ask.0) calls now = subst (λ (b : Act Done). Stands b calls now) ask.1 s in
+          subst (λ (b : Act Done). Stands (after b (a ∷ [])) (calls_after tree losses w calls) next) (sym (same ∙ ask.1)) (step w ask.0 a calls now next stands h)
 
-    limit-on : (w : Request) (p : Progress) → limit_behind p (stored_for tree.0 losses p w) ≡ None → (xs : List Storing)
-        → limit_behind p (stored_for tree.0 losses p w ++ xs) ≡ limit_behind (after_request tree.0 losses p w) xs
-    limit-on (request.Call app arguments names) p none xs =
-        let n = call_units arguments names in
-        let o = outcome_units (next_outcome tree.0 losses p app arguments names) in
-        let room = submits-room (length p.ends) p.stored n (Stores o ∷ []) none in
-        let small = stores-room (length p.ends + 1) (p.stored + n) o [] (sym (submits-on (length p.ends) p.stored n room (Stores o ∷ [])) ∙ none) in
-        submits-on (length p.ends) p.stored n room (Stores o ∷ xs)
-        ∙ stores-on (length p.ends + 1) (p.stored + n) o small xs
-        ∙ ap (λ (k : ℕ). first_limit k (p.stored + n + o) xs) (sym (length-append p.ends (next_end tree.0 losses p app arguments names ∷ [])))
-    limit-on (request.WaitValue f) p none xs = refl
-    limit-on (request.WaitName f) p none xs = refl
-    limit-on (request.Print value) p none xs = stores-on (length p.ends) p.stored (units value) (stores-room (length p.ends) p.stored (units value) [] none) xs
-    limit-on request.Checkpoint p none xs = refl
+      pub stands-on-calls : (act left : Act Done) (w : Request) (a : Answer) (calls more : ℕ) (now next : EvalState) → more ≡ calls_after tree losses w calls → Stands act calls now → want.Asks w ≡ first_want act → left ≡ act
+          → MainAnswers tree losses [] 0 calls w now next (Ok a) → Stands (after left (a ∷ [])) more next
+      stands-on-calls act left w a calls more now next is s wants same h = subst (λ (n : ℕ). Stands (after left (a ∷ [])) n next) (sym is) (stands-on act left w a calls now next s wants same h)
 
-    stands-answered : (w : Request) (go : Answer → Act Done) (p : Progress) → Stands (Ask w go) p → limit_behind p (stored_for tree.0 losses p w) ≡ None → Stands (go (answer_for tree.0 losses p w)) (after_request tree.0 losses p w)
-    stands-answered w go p s none =
-        let r = answers w s.m in
-        rw (answer-same w s.m p s.is-numbered s.ends) (record {
-          m = r.1;
-          is-numbered = numbered-on w s.m s.is-numbered;
-          ends = ends-on w s.m p s.is-numbered s.ends;
-          printed = printed-on w s.m p s.printed;
-          performs = s.performs;
-          limit =
-              s.limit
-              ∙ ap (λ (xs : List Storing). limit_behind p (xs ++ stored_in (go r.0) r.1)) (sym (stored-same w s.m p s.is-numbered s.ends))
-              ∙ limit-on w p none (stored_in (go r.0) r.1);
-        })
+      refused : (fault : EvalFault) (w : Request) (go : Answer → Act Done) (calls : ℕ) (now : EvalState) → Stands (Ask w go) calls now → Meets fault (limit_behind now (stored_for tree losses [] 0 calls w now)) → Meets fault (limit_met (seq tree.0 tree.1 losses))
+      refused fault w go calls now s met =
+          let r = answers w s.m in
+          meets-same fault _ _ (sym s.limit)
+          (meets-more fault now (stored_at w s.m) (stored_in (go r.0) r.1) (meets-same fault _ _ (ap (limit_behind now) (stored_same w (Ask w go) calls now s)) met))
 
-    -- what a request stores meets a limit first
-    limit-met : (w : Request) (go : Answer → Act Done) (p : Progress) → Stands (Ask w go) p → (l : Limit) → limit_behind p (stored_for tree.0 losses p w) ≡ Some l → limit_met (seq tree.0 tree.1 losses) ≡ Some l
-    limit-met w go p s l met =
-        let r = answers w s.m in
-        s.limit
-        ∙ ap (λ (xs : List Storing). limit_behind p (xs ++ stored_in (go r.0) r.1)) (sym (stored-same w s.m p s.is-numbered s.ends))
-        ∙ met-first (length p.ends) p.stored (stored_for tree.0 losses p w) (stored_in (go r.0) r.1) l met
+      pub stands-refused : (act : Act Done) (w : Request) (calls : ℕ) (now next : EvalState) (fault : EvalFault) (r : Result Ended EvalFault) → Stands act calls now → want.Asks w ≡ first_want act
+          → MainAnswers tree losses [] 0 calls w now next (Err fault) → IsErrAnd r (λ e. e ≡ fault) → MainGives tree losses next r
+      stands-refused act w calls now next fault (Ok e) s wants h err = absurd err
+      stands-refused act w calls now next fault (Err e) s wants h err =
+          let ask = asked act w wants in
+          subst (λ (f : EvalFault). Meets f (limit_met (seq tree.0 tree.1 losses))) (sym err) (refused fault w ask.0 calls now (subst (λ (b : Act Done). Stands b calls now) ask.1 s) h)
 
-    -- ---- what a walk wants
+      ends : (act : Act Done) (e : Ended) (calls : ℕ) (now : EvalState) (s : Stands act calls now) → stored_in act s.m ≡ [] → perform answers act s.m ≡ (result_of e, s.m) → MainGives tree losses now (Ok e)
+      ends act e calls now s none is =
+          let whole : main_performed tree losses ≡ (result_of e, s.m) = s.performs ∙ is in
+          let front : before.tasks.items ++ map (shown tree.0) s.m.made.tasks ≡ map (shown tree.0) s.m.made.tasks = ap (λ (ts : List _). ts ++ map (shown tree.0) s.m.made.tasks) empty.tasks in
+          let printed : before.printed ++ s.m.printed ≡ s.m.printed = ap (λ (ps : List Value). ps ++ s.m.printed) empty.printed in (
+            s.limit ∙ ap (limit_behind now) none,
+            s.added.tasks ∙ front ∙ sym (ap (λ (r : Result Done Exception × Main). map (shown tree.0) r.1.made.tasks) whole),
+            s.added.printed ∙ printed ∙ sym (ap (λ (r : Result Done Exception × Main). r.1.printed) whole),
+            sym (ap (λ (r : Result Done Exception × Main). r.0) whole),
+          )
 
-    asked : (act : Act Done) (w : Request) → want.Asks w ≡ first_want act → (go : Answer → Act Done) × (act ≡ Ask w go)
-    asked (Give d) w h = absurd (cc)
-    asked (Throw exception) w h = absurd (cc)
-    asked (Ask u go) w h = (go, let same : w ≡ u = cc in ap (λ (y : Request). Ask y go) (sym same))
-
-    of_apps : (apps : List AppDef) (w : Request) (p now : Progress) (r : Result Answer EvalFault) → apps ≡ tree.0 → Answers apps losses w p now r → Answers tree.0 losses w p now r
-    of_apps apps w p now r is h = subst (λ (xs : List AppDef). Answers xs losses w p now r) is h
-
-    pub stands-on : (apps : List AppDef) (act left : Act Done) (w : Request) (given : Answer) (p now : Progress) → apps ≡ tree.0 → Stands act p → want.Asks w ≡ first_want act → left ≡ act → Answers apps losses w p now (Ok given) → Stands (after left (given ∷ [])) now
-    stands-on apps act left w given p now is s wants same answers_it =
-        let h = of_apps apps w p now (Ok given) is answers_it in
-        let ask = asked act w wants in
-        let stands : Stands (Ask w ask.0) p = rw ask.1 at s in
-        rw (same, ask.1, h.1.0, h.1.1) (stands-answered w ask.0 p stands h.0)
-
-    refused : (act : Act Done) (w : Request) (p : Progress) (fault : EvalFault) → Stands act p → want.Asks w ≡ first_want act → Meets fault (limit_behind p (stored_for tree.0 losses p w)) → Evaluates tree losses (Err fault)
-    refused act w p TaskLimit s wants h = let ask = asked act w wants in limit-met w ask.0 p (rw ask.1 at s) limit.Tasks h
-    refused act w p StoreLimit s wants h = let ask = asked act w wants in limit-met w ask.0 p (rw ask.1 at s) limit.Stored h
-    refused act w p NoMemory s wants h = tt
-
-    pub stands-refused : (apps : List AppDef) (act : Act Done) (w : Request) (p now : Progress) (fault : EvalFault) (r : Result Evaluation EvalFault) → apps ≡ tree.0 → Stands act p → want.Asks w ≡ first_want act → Answers apps losses w p now (Err fault) → IsErrAnd r (λ e. e ≡ fault) → Evaluates tree losses r
-    stands-refused apps act w p now fault (Ok evaluation) is s wants h err = absurd err
-    stands-refused apps act w p now fault (Err e) is s wants h err = rw err (refused act w p fault s wants (of_apps apps w p now (Err fault) is h))
-
-    -- ---- the end
-
-    evaluated : (r : Result Done Exception × Main) (p : Progress) (e : Ended) (result : Evaluation) → seq tree.0 tree.1 losses ≡ sequential r → p.ends ≡ map (task_end tree.0) r.1.made.tasks → p.printed ≡ r.1.printed
-        → (sequential r).ending ≡ (evaluation_of p e).main → result ≡ evaluation_of p e → result ≡ evaluation_in tree.0 (seq tree.0 tree.1 losses)
-    evaluated r p e result is ends printed ending same = same ∙ rw (is, ends, printed, ending) refl
-
-    pub stands-ended : (act : Act Done) (e : Ended) (p : Progress) (result : Evaluation) → Stands act p → want.Ended e ≡ first_want act → result ≡ evaluation_of p e → Evaluates tree losses (Ok result)
-    stands-ended (Give d) e p result s wants same =
-        let r = perform answers (Give d) s.m in
-        let ending : (sequential r).ending ≡ (evaluation_of p e).main = sym (ap ending_from (same_want _ e wants)) in
-        (s.limit, evaluated r p e result (seq-is ∙ ap sequential s.performs) s.ends s.printed ending same)
-      where
-        same_want : (a b : Ended) → want.Ended b ≡ want.Ended a → b ≡ a
-        same_want a b h = cc
-    stands-ended (Throw exception) e p result s wants same =
-        let r = perform answers (Throw exception) s.m in
-        let ending : (sequential r).ending ≡ (evaluation_of p e).main = sym (ap ending_from (same_want _ e wants)) in
-        (s.limit, evaluated r p e result (seq-is ∙ ap sequential s.performs) s.ends s.printed ending same)
-      where
-        same_want : (a b : Ended) → want.Ended b ≡ want.Ended a → b ≡ a
-        same_want a b h = cc
-    stands-ended (Ask w go) e p result s wants same = absurd (cc)
+      pub stands-ended : (act : Act Done) (e : Ended) (calls : ℕ) (now : EvalState) → Stands act calls now → want.Ended e ≡ first_want act → MainGives tree losses now (Ok e)
+      stands-ended (Give d) e calls now s wants = ends (Give d) e calls now s refl (ap (λ (b : Ended). (result_of b, s.m)) (let same : ended.Value d.0 d.1 ≡ e = (let h = wants in cc) in same))
+      stands-ended (Throw exception) e calls now s wants = ends (Throw exception) e calls now s refl (ap (λ (b : Ended). (result_of b, s.m)) (let same : ended.Raised exception ≡ e = (let h = wants in cc) in same))
+      stands-ended (Ask w go) e calls now s wants = absurd (cc)

@@ -1,14 +1,12 @@
-//! The sequential evaluation of a script without joins.
+//! The sequential evaluation of a script.
 
 ghost use Rattle.std.specs.Prelude.{◌<◌, ◌^◌, length};
-ghost use Rattle.call_rules.specs.PlainScripts.{NoJoins};
 ghost use Rattle.script_eval.specs.Evaluating.{Evaluates};
 ghost use Rattle.script_eval.specs.Lost.{loss_at};
 
+use crate::evaluator::Evaluator;
 use crate::losses::Losses;
-use crate::progress::Progress;
-use crate::walking::main_walk;
-use app_eval::{Reply, Want};
+use crate::state::EvalState;
 use flow_base::Evaluation;
 use script_tree::checked::Checked;
 use std::alloc::{AllocError, Global};
@@ -50,23 +48,17 @@ impl From<Limit> for EvalFault {
     }
 }
 
-/// The sequential evaluation of a script without joins, where these tasks are lost; or the limit that it
-/// meets first.
+/// The sequential evaluation of a script, where these tasks are lost; or the limit that it meets first.
 pub fn evaluate(alloc: Global, script: &Checked, losses: &Losses) -> Result<Evaluation, EvalFault>
-    requires few { length script.now.tree.0 < 2 ^ 32 }
-    requires plain { NoJoins script.now.tree }
+    requires { length script.now.tree.0 < 2 ^ 32 }
     ensures { Evaluates script.now.tree (loss_at losses.now) result }
 {
-    let apps = script.script().apps();
-    let mut walk = main_walk(alloc, script)?;
-    let mut progress = Progress::new(alloc);
-    let mut reply = Reply::Begin;
-    'requests: loop {
-        match walk.resume(alloc, reply)? {
-            Want::Asks(request) => {
-                reply = Reply::Told(progress.answer(alloc, apps, losses, request)?);
-            }
-            Want::Ended(ended) => return Ok(progress.evaluation(ended)),
-        }
-    }
+    let evaluator = Evaluator {
+        alloc,
+        script,
+        losses,
+    };
+    let mut state = EvalState::new(alloc);
+    let ended = evaluator.run_main(&mut state)?;
+    Ok(state.evaluation(alloc, ended)?)
 }

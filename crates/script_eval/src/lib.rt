@@ -1,10 +1,11 @@
 //! The sequential evaluation of a script.
 #![tactic(auto)]
 
-mod copies;
 mod evaluation;
+mod evaluator;
+mod group;
 mod losses;
-mod progress;
+mod state;
 mod walking;
 
 pub use evaluation::{EvalFault, evaluate};

@@ -1,10 +1,11 @@
-//! The walk of main.
+//! Walks of main and of joins.
 
-ghost use Rattle.std.specs.Prelude.{◌≡◌, ◌+◌, ◌-◌, ◌<◌, ◌^◌, suc, length, IfOk, OnOk};
-ghost use Rattle.flow_meaning.specs.Walk.{main_act};
+ghost use Rattle.std.specs.Prelude.{◌≡◌, ◌+◌, ◌-◌, ◌<◌, ◌^◌, suc, length, slice_get, IfOk, OnOk};
+ghost use Rattle.flow_meaning.specs.Walk.{body_act, main_act};
 ghost use Rattle.app_eval.specs.Walks.{Resumes, left_of, rest_of};
 
 use app_eval::{Reply, Walker, Want};
+use flow_base::Items;
 use script_tree::checked::Checked;
 use std::alloc::{AllocError, Global};
 
@@ -17,7 +18,7 @@ pub enum Told {
     Answer,
 }
 
-/// A walk of main, and what it was told.
+/// A walk, and what it was told.
 #[derive(Drop)]
 pub struct CountedWalk {
     pub walker: Walker,
@@ -25,19 +26,37 @@ pub struct CountedWalk {
     pub told: Vec<Told>,
 }
 
-/// The walk of main at its beginning.
-pub fn main_walk(alloc: Global, script: &Checked) -> Result<CountedWalk, AllocError>
-    requires { length script.now.tree.0 < 2 ^ 32 }
-    ensures left { IfOk result (λ w. left_of w.walker ≡ main_act script.now.tree) }
-    ensures rest { IfOk result (λ w. length w.told.items + rest_of w.walker ≡ 2 ^ 64 - 1) }
-{
-    Ok(CountedWalk {
-        walker: Walker::main(alloc, script)?,
-        told: Vec::new(alloc),
-    })
-}
-
 impl CountedWalk {
+    /// The walk of main at its beginning.
+    pub fn main(alloc: Global, script: &Checked) -> Result<CountedWalk, AllocError>
+        requires { length script.now.tree.0 < 2 ^ 32 }
+        ensures left { IfOk result (λ w. left_of w.walker ≡ main_act script.now.tree) }
+        ensures rest { IfOk result (λ w. length w.told.items + rest_of w.walker ≡ 2 ^ 64 - 1) }
+    {
+        Ok(CountedWalk {
+            walker: Walker::main(alloc, script)?,
+            told: Vec::new(alloc),
+        })
+    }
+
+    /// The walk of a join's body at its beginning.
+    pub fn join(
+        alloc: Global,
+        script: &Checked,
+        app: u32,
+        arguments: Items,
+    ) -> Result<CountedWalk, AllocError>
+        requires few { length script.now.tree.0 < 2 ^ 32 }
+        requires app { app < length script.now.tree.0 }
+        ensures left { IfOk result (λ w. left_of w.walker ≡ body_act script.now.tree (slice_get script.now.tree.0 app) arguments) }
+        ensures rest { IfOk result (λ w. length w.told.items + rest_of w.walker ≡ 2 ^ 64 - 1) }
+    {
+        Ok(CountedWalk {
+            walker: Walker::body(alloc, script, app, arguments)?,
+            told: Vec::new(alloc),
+        })
+    }
+
     /// On to the next want.
     pub fn resume(&mut self, alloc: Global, reply: Reply) -> Result<Want, AllocError>
         requires { length self.old.told.items + rest_of self.old.walker ≡ 2 ^ 64 - 1 }
