@@ -44,6 +44,23 @@ end_of w inv e b is = by_test (has_end w.past) refl
     by_entry (entry.Start p n manager) at complete false h = refl
     by_entry (entry.Ended p n manager kind) at complete false h = refl
     by_entry (entry.Settled p s) at complete false h = refl
+    by_entry (entry.MemoHit q) at complete false h = refl
+    by_entry (entry.Dispatch q n manager) at complete false h = refl
+    by_entry (entry.Held q n manager) at complete false h = refl
+    by_entry (entry.LostTry q n manager) at complete false h = refl
+    by_entry (entry.Stored q) at complete false h = refl
+    by_entry (entry.Block block state) at complete false h = refl
+    by_entry (entry.Register manager block slots) at complete false h = refl
+    by_entry (entry.Refused block version) at complete false h = refl
+    by_entry (entry.Tick moment) at complete false h = refl
+    by_entry (entry.Beat manager) at complete false h = refl
+    by_entry (entry.Silent manager) at complete false h = refl
+    by_entry (entry.Lost manager) at complete false h = refl
+    by_entry (entry.Drain manager) at complete false h = refl
+    by_entry (entry.Drained manager) at complete false h = refl
+    by_entry (entry.Hold manager) at complete false h = refl
+    by_entry (entry.Scale decided) at complete false h = refl
+    by_entry (entry.Checkpoint count) at complete false h = refl
     by_entry f at complete true h = absurd (let ends = (complete h).ends in let same = sym at ∙ ends in cc)
 
     by_test : (t : Bool) → has_end w.past ≡ t → has_end (e ∷ []) ≡ t

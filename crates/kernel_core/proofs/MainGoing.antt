@@ -19,15 +19,12 @@ use Rattle.kernel_model.specs.Known.{Known, path_at, settled_outcome, known, mai
 use Rattle.kernel_model.specs.Acts.{waited, arrived_at}
 use Rattle.kernel_model.specs.Conditions.{MainAsks}
 use Rattle.kernel_model.specs.Invariants.{Inv}
-use Rattle.kernel_model.specs.PlainScripts.{CallsAreNumbered}
 use Rattle.kernel_model.specs.Turns.{unsettled_step, outcome_step, wait_step, request_step}
 use Rattle.kernel_model.proofs.KeepingMain.{after-more}
 use Rattle.kernel_model.proofs.Places.{known-at}
-use Rattle.kernel_model.proofs.Waits.{WaitsForNumber, value-waits_for_number, name-waits_for_number}
 use Rattle.kernel_core.specs.declared.main_walk.MainWalk.{MainWalk}
 use Rattle.kernel_core.specs.MainTurns.{waited_for, IsOfCall, IsWaitOf}
 use Rattle.kernel_core.specs.MainWalks.{left_in, rest_in, IsReady, Stands, IsTaken}
-use Rattle.kernel_core.specs.Views.{IsFact}
 
 -- ---- main goes on with an answer
 
@@ -112,16 +109,11 @@ arrived-again w again = ap (λ (b : Bool). record w { arrived = b }) (sym (not_t
 
 -- ---- what main waits for
 
-number_there : (w : Known) (k : ℕ) → WaitsForNumber w (suc k ∷ []) → k < length w.calls
-number_there w k at = let is = at.is in let same : k ≡ at.place = cc is in subst (λ (j : ℕ). j < length w.calls) (sym same) at.within
+waits_of : (w : Known) (wanted : Request) (f : Value) (k : ℕ) → waited_for wanted ≡ Some f → IsOfCall w f k → IsWaitOf w wanted k
+waits_of w wanted f k waits is = record { future = f; waits = waits; path = is.path; within = is.within }
 
-waits_of : (w : Known) (wanted : Request) (f : Value) (k : ℕ) → CallsAreNumbered w → waited_for wanted ≡ Some f → IsOfCall f k → WaitsForNumber w (suc k ∷ []) → IsWaitOf w wanted k
-waits_of w wanted f k numbered waits is at =
-    let within = number_there w k at in
-    record { future = f; waits = waits; path = is ∙ ap (λ (p : Path). p ∷ []) (sym (numbered k within)); within = within }
+pub value-wait-of : (w : Known) (f : Value) (k : ℕ) → IsOfCall w f k → IsWaitOf w (request.WaitValue f) k
+value-wait-of w f k is = waits_of w (request.WaitValue f) f k refl is
 
-pub value-wait-of : (w : Known) (f : Value) (k : ℕ) → IsFact w → MainAsks w (request.WaitValue f) → IsOfCall f k → IsWaitOf w (request.WaitValue f) k
-value-wait-of w f k fact asks is = waits_of w (request.WaitValue f) f k fact.numbered refl is (value-waits_for_number w fact.inv fact.numbered f asks.go asks.left (suc k ∷ []) [] is)
-
-pub name-wait-of : (w : Known) (f : Value) (k : ℕ) → IsFact w → MainAsks w (request.WaitName f) → IsOfCall f k → IsWaitOf w (request.WaitName f) k
-name-wait-of w f k fact asks is = waits_of w (request.WaitName f) f k fact.numbered refl is (name-waits_for_number w fact.inv fact.numbered f asks.go asks.left (suc k ∷ []) [] is)
+pub name-wait-of : (w : Known) (f : Value) (k : ℕ) → IsOfCall w f k → IsWaitOf w (request.WaitName f) k
+name-wait-of w f k is = waits_of w (request.WaitName f) f k refl is

@@ -1,5 +1,5 @@
 -- What main's acts keep: what is known stays sound.
-use Rattle.std.proofs.Common.{◌≡◌, ℕ, suc, ◌+◌, ◌-◌, ◌^◌, ◌<◌, ◌≤◌, min, List, [], ◌∷◌, length, Some, None, sym, ◌∙◌, ap, subst, arith}
+use Rattle.std.proofs.Common.{◌≡◌, ℕ, ◌+◌, ◌-◌, ◌^◌, ◌<◌, ◌≤◌, min, List, [], ◌∷◌, length, Some, None, sym, ◌∙◌, ap, subst, arith}
 use Rattle.flow_base.specs.declared.value.Value.{Value, out-Value}
 use Rattle.flow_base.specs.declared.outcome.Ending.{Ending}
 use Rattle.flow_base.specs.declared.outcome.Outcome.{Outcome}
@@ -14,14 +14,13 @@ use Rattle.flow_meaning.specs.Sequential.{MainAct, outcome_at}
 use Rattle.call_rules.specs.Calls.{Call}
 use Rattle.stored_units.specs.declared.units.Limit.TheVariants as limit
 use Rattle.stored_units.specs.Stored.{max_tasks, max_stored}
-use Rattle.kernel_model.specs.Known.{Known, path_at, settled_outcome, known, next_path}
+use Rattle.kernel_model.specs.Known.{Known, path_at, settled_outcome, known}
 use Rattle.kernel_model.specs.Acts.{call_of as next_call, answered, called, waited, printed, checkpointed, arrived_at, main_ended}
 use Rattle.kernel_model.specs.Conditions.{MainAsks, CanEndMain}
 use Rattle.kernel_model.specs.Invariants.{Inv}
 use Rattle.kernel_model.specs.Limits.{stored, passed, units_of_call}
 use Rattle.kernel_model.proofs.Counting.{stored-called, stored-printed, stored-unprinted, stored-waited, stored-checkpointed, calls-called}
 use Rattle.kernel_model.proofs.KeepingMain.{keep-called, keep-printed, keep-checkpointed, keep-waited-value, keep-waited-name, keep-unwaited-value, keep-unwaited-name, keep-arrived, keep-main-ended}
-use Rattle.kernel_model.proofs.Numbered.{numbered-called, submits-count}
 use Rattle.kernel_model.proofs.Passing.{passed-none, passed-tasks, passed-stored}
 use Rattle.kernel_model.proofs.Places.{known-at}
 use Rattle.kernel_core.specs.MainTurns.{waited_for, WaitsFor, AddsCall}
@@ -49,7 +48,7 @@ within-from v calls units = (passed-none v).1 (calls, units)
 -- ---- facts
 
 fact-answered : (w : Known) (a : Answer) (acts : List MainAct) → IsFact w → Inv (answered w a acts) → stored (answered w a acts) ≤ max_stored → IsFact (answered w a acts)
-fact-answered w a acts f inv small = record { inv = inv; opens = f.opens; numbered = f.numbered; within = within-from (answered w a acts) (fact-calls w f) small }
+fact-answered w a acts f inv small = record { inv = inv; few_apps = f.few_apps; within = within-from (answered w a acts) (fact-calls w f) small }
 
 pub fact-printed : (w : Known) (value : Value) → IsFact w → MainAsks w (request.Print value) → stored w + units value ≤ max_stored → IsFact (printed w value)
 fact-printed w value f asks small = fact-answered w answer.Go _ f (keep-printed w value f.inv asks) (subst (λ (n : ℕ). n ≤ max_stored) (sym (stored-printed w value)) small)
@@ -69,16 +68,12 @@ fact-waited w k outcome f h settled = fact-answered w (answer.Outcome outcome) _
     by_request other asks is = absurd (cc)
 
 pub fact-arrived : (w : Known) → IsFact w → IsFact (arrived_at w)
-fact-arrived w f = record { inv = keep-arrived w f.inv; opens = f.opens; numbered = f.numbered; within = f.within }
+fact-arrived w f = record { inv = keep-arrived w f.inv; few_apps = f.few_apps; within = f.within }
 
 pub fact-main-ended : (w : Known) (ending : Ending) → IsFact w → CanEndMain w ending → IsFact (main_ended w ending)
-fact-main-ended w ending f can = record { inv = keep-main-ended w ending f.inv can; opens = f.opens; numbered = f.numbered; within = f.within }
+fact-main-ended w ending f can = record { inv = keep-main-ended w ending f.inv can; few_apps = f.few_apps; within = f.within }
 
 -- ---- calls
-
--- the path of main's next call is its number
-pub next-path : (w : Known) → IsFact w → next_path w ≡ suc (length w.calls) ∷ []
-next-path w f = ap (λ (n : ℕ). suc n ∷ []) (submits-count w f.inv.holds f.opens.plain)
 
 pub fact-called : (w : Known) (app : ℕ) (arguments : List Value) (names : List Text) (path : Path) (n : ℕ) → IsFact w → MainAsks w (request.Call app arguments names) → AddsCall w (next_call w app arguments names) path n → IsFact (called w (next_call w app arguments names))
 fact-called w app arguments names path n f asks adds =
@@ -87,8 +82,7 @@ fact-called w app arguments names path n f asks adds =
     let total : stored (called w c) ≡ stored w + n = stored-called w c ∙ ap (λ (m : ℕ). stored w + m) (sym adds.units_are) in
     record {
       inv = keep-called w app arguments names f.inv asks;
-      opens = f.opens;
-      numbered = numbered-called w app arguments names f.numbered (submits-count w f.inv.holds f.opens.plain);
+      few_apps = f.few_apps;
       within = within-from (called w c) (few (length w.calls) (length (called w c).calls) count adds.few) (subst (λ (m : ℕ). m ≤ max_stored) (sym total) adds.small);
     }
   where

@@ -11,6 +11,7 @@ use Rattle.event_log.specs.declared.entry.Entry.{Entry}
 use Rattle.event_log.specs.declared.entry.Entry.TheVariants as entry
 use Rattle.task_record.specs.Tasks.{Task as Record}
 use Rattle.task_record.specs.declared.status.Status.TheVariants as status
+use Rattle.dependency_graph.specs.Places.{place_in}
 use Rattle.dependency_graph.specs.declared.monitor.Settlement.{Settlement}
 use Rattle.flow_meaning.specs.declared.walk.Request.TheVariants as request
 use Rattle.flow_meaning.specs.Evaluations.{name_in}
@@ -19,6 +20,7 @@ use Rattle.flow_meaning.specs.Operators.{Text}
 use Rattle.flow_meaning.specs.Sequential.{Waits, outcome_answer}
 use Rattle.flow_meaning.specs.declared.walk.Answer.TheVariants as answer
 use Rattle.call_rules.specs.Calls.{Call}
+use Rattle.history_laws.specs.Reads.{submits}
 use Rattle.stored_units.specs.Stored.{max_tasks, max_stored, name_units, call_units}
 use Rattle.kernel_model.specs.declared.answers.Refusal.{Refusal}
 use Rattle.kernel_model.specs.Known.{Known, Life, path_at, settled_outcome}
@@ -31,8 +33,9 @@ use Rattle.kernel_core.specs.declared.task.Task.{Task}
 use Rattle.kernel_core.specs.declared.run_state.MainStep.{MainStep}
 use Rattle.kernel_core.specs.declared.run_state.MainStep.TheVariants as step
 use Rattle.kernel_core.specs.Tasks.{call_of, life_of, AreOver, running_in}
-use Rattle.kernel_core.specs.Views.{known_with, IsFact, IsSound}
-use Rattle.kernel_core.proofs.MainSound.{units-fit, fact-stored, next-path, fact-printed, fact-checkpointed, fact-waited, fact-arrived, fact-main-ended, fact-called}
+use Rattle.kernel_core.specs.Views.{known_with, IsFact, IsSound, IsIndexed}
+use Rattle.kernel_core.proofs.MainSound.{units-fit, fact-stored, fact-printed, fact-checkpointed, fact-waited, fact-arrived, fact-main-ended, fact-called}
+use Rattle.kernel_core.proofs.PathTables.{next-nowhere, indexed-called}
 use Rattle.kernel_core.proofs.MainViews.{IsPushed, over-push, over-append, running-push, view-answered, view-called}
 
 -- ---- one more step
@@ -115,7 +118,7 @@ abbrev pub fresh : Path → ℕ → List Value → List Text → Record
 fresh path app arguments names = record { path = path; app = app; arguments = arguments; names = names; status = status.Pending; attempts = 0; cost = 0 }
 
 abbrev pub unended : Record → Task
-unended r = record { «record» = r; end = None }
+unended r = record { «record» = r; end = None; ran = None }
 
 -- what is written for the call
 pub record Writes (tree : Tree) (tasks : List Task) (app : ℕ) (arguments : List Value) (names : List Text) (path : Path) (k : ℕ) (r : Record) (copy : Path) (name : Text) : Type 0 where
@@ -172,25 +175,46 @@ submit-sound w tree tasks steps arrived ending log refusal told running kept n a
     last_below (t ∷ tasks) c k is = let h = last_below tasks c (length tasks) refl in omega arith
 
 -- what the tests before a call give
-pub call-adds : (w : Known) (tree : Tree) (tasks : List Task) (steps : List MainStep) (arrived : Bool) (ending : Option Ending) (log : List Entry) (refusal : Option Refusal) (told : List (List Settlement)) (running kept n m : ℕ)
-    (app : ℕ) (arguments : List Value) (names : List Text) (path : Path)
-    → IsSound (known_with tree tasks steps arrived ending log refusal told) tasks steps running kept → known_with tree tasks steps arrived ending log refusal told ≡ w
-    → m ≡ length tasks → m < max_tasks → path ≡ (m + 1) ∷ [] → n ≡ min (call_units arguments names) (2 ^ 64 - 1) → n ≤ max_stored - kept → AddsCall w (next_call w app arguments names) path n
-call-adds w tree tasks steps arrived ending log refusal told running kept n m app arguments names path sound view count few at is fits =
+pub call-adds : (w : Known) (tree : Tree) (tasks : List Task) (steps : List MainStep) (arrived : Bool) (ending : Option Ending) (log : List Entry) (refusal : Option Refusal) (told : List (List Settlement)) (running kept n m mains : ℕ)
+    (app : ℕ) (arguments : List Value) (names : List Text) (path : Path) (places : List Path)
+    → IsSound (known_with tree tasks steps arrived ending log refusal told) tasks steps running kept → IsIndexed (known_with tree tasks steps arrived ending log refusal told) places mains → known_with tree tasks steps arrived ending log refusal told ≡ w
+    → m ≡ length tasks → m < max_tasks → path ≡ (mains + 1) ∷ [] → n ≡ min (call_units arguments names) (2 ^ 64 - 1) → n ≤ max_stored - kept → AddsCall w (next_call w app arguments names) path n
+call-adds w tree tasks steps arrived ending log refusal told running kept n m mains app arguments names path places sound index view count few at is fits =
     let u : Known = known_with tree tasks steps arrived ending log refusal told in
     let as_many : length u.calls ≡ m = length-map tasks call_of ∙ sym count in
     let within : kept ≤ max_stored = subst (λ (k : ℕ). k ≤ max_stored) (sym sound.units_are) (fact-stored u sound.fact) in
     let both = units-fit kept n (call_units arguments names) is fits within in
     let adds : AddsCall u (next_call u app arguments names) path n = record {
-      path_is = at ∙ number m (length u.calls) as_many ∙ sym (next-path u sound.fact);
+      path_is = at ∙ number mains (submits u.past) index.mains_are;
       units_are = both.0;
       few = subst (λ (k : ℕ). k < max_tasks) (sym as_many) few;
       small = subst (λ (k : ℕ). k + n ≤ max_stored) sound.units_are both.1;
     } in
     subst (λ (w : Known). AddsCall w (next_call w app arguments names) path n) view adds
   where
-    number : (m k : ℕ) → k ≡ m → (m + 1) ∷ [] ≡ suc k ∷ []
+    number : (m k : ℕ) → m ≡ k → (m + 1) ∷ [] ≡ suc k ∷ []
     number m k e = let same : m + 1 ≡ suc k = omega arith in ap (λ (j : ℕ). j ∷ []) same
+
+-- main's number of calls has room for one more
+pub adds-few : (v w : Known) (places : List Path) (mains n : ℕ) (c : Call) (path : Path) → v ≡ w → IsIndexed v places mains → AddsCall w c path n → mains < max_tasks
+adds-few v w places mains n c path view index adds =
+    let below = (subst (λ (u : Known). IsIndexed u places mains) view index).few in
+    let few = adds.few in
+    omega (arith, below, few)
+
+-- no call has the path of the next one
+pub submit-new : (v w : Known) (places : List Path) (mains n app : ℕ) (arguments : List Value) (names : List Text) (path : Path) → v ≡ w → IsFact v → IsIndexed v places mains → AddsCall w (next_call w app arguments names) path n → place_in places path ≡ None
+submit-new v w places mains n app arguments names path view fact index adds =
+    ap (place_in places) adds.path_is ∙ next-nowhere w places mains (subst IsFact view fact).inv.holds.tracks (subst (λ (u : Known). IsIndexed u places mains) view index)
+
+-- the table behind it
+pub submit-indexed : (v w u : Known) (places places_after : List Path) (mains n app : ℕ) (arguments : List Value) (names : List Text) (path : Path) → v ≡ w → IsIndexed v places mains → AddsCall w (next_call w app arguments names) path n
+    → places_after ≡ places ++ path ∷ [] → u ≡ called w (next_call w app arguments names) → IsIndexed u places_after (mains + 1)
+submit-indexed v w u places places_after mains n app arguments names path view index adds after is =
+    let c : Call = next_call w app arguments names in
+    let table : places_after ≡ places ++ c.path ∷ [] = after ∙ ap (λ (p : Path). places ++ p ∷ []) adds.path_is in
+    let behind = indexed-called w places mains c (subst (λ (u : Known). IsIndexed u places mains) view index) refl in
+    subst (λ (u : Known). IsIndexed u places_after (mains + 1)) (sym is) (subst (λ (ps : List Path). IsIndexed (called w c) ps (mains + 1)) (sym table) behind)
 
 -- a call whose units fit has few names
 names_least : (names : List Text) → length names ≤ sum (map name_units names)

@@ -1,69 +1,81 @@
 -- What a kernel gives back is the evaluation.
-use Rattle.std.specs.Prelude.{slice_get, flat_map}
-use Rattle.std.proofs.Common.{◌≡◌, ℕ, suc, ◌+◌, ◌<◌, true, List, [], ◌∷◌, ◌++◌, length, map, get_or, Option, Some, None, refl, sym, ◌∙◌, ap, arith}
+use Rattle.std.specs.Prelude.{◌||◌, if◌then◌else◌, slice_get, flat_map}
+use Rattle.std.proofs.Common.{◌≡◌, ◌≢◌, ℕ, suc, ◌<◌, Bool, true, false, List, [], ◌∷◌, ◌++◌, length, map, get_or, bytes_eq, Option, Some, None, refl, sym, ◌∙◌, ap, ap₂, arith}
+use Rattle.std.specs.List.{list_any}
+use Rattle.std.proofs.lemmas.Bool.{or_parts}
+use Rattle.std.proofs.lemmas.Slice.Eq.{bytes_eq-Decides}
 use Rattle.flow_base.specs.declared.value.Value.{Value}
 use Rattle.flow_base.specs.declared.outcome.Outcome.{Outcome}
 use Rattle.flow_base.specs.declared.outcome.TaskEnd.{TaskEnd}
 use Rattle.script_tree.specs.declared.tree.AppDef.{AppDef}
 use Rattle.flow_meaning.specs.Evaluations.{task_end, name_in}
+use Rattle.flow_meaning.specs.Inputs.{Path}
 use Rattle.flow_meaning.specs.Sequential.{Task as Ended, Tasks}
-use Rattle.body_requests.specs.Asks.{Each}
+use Rattle.dependency_graph.specs.Places.{AreDistinct}
 use Rattle.call_rules.specs.Calls.{Call}
-use Rattle.call_rules.specs.Orders.{path_less, placed, in_order, Ascending}
-use Rattle.call_rules.proofs.Ordering.{less-number}
-use Rattle.kernel_model.specs.Known.{Known, Life, no_call, outcome_in, known, known_in, tasks_where, apps_in, printed_in as printed_by_acts}
+use Rattle.call_rules.specs.Orders.{path_less, placed as placed_task, in_order}
+use Rattle.kernel_model.specs.Known.{Known, no_call, outcome_in, known, known_in, tasks_where, apps_in, printed_in as printed_by_acts}
 use Rattle.kernel_model.specs.Evaluated.{evaluated, ending_or}
-use Rattle.kernel_model.specs.PlainScripts.{CallsAreNumbered}
 use Rattle.kernel_core.specs.declared.task.Task.{Task}
 use Rattle.kernel_core.specs.declared.run_state.MainStep.{MainStep}
 use Rattle.kernel_core.specs.declared.run_state.MainStep.TheVariants as step
+use Rattle.kernel_core.specs.Joins.{task_paths}
 use Rattle.kernel_core.specs.Tasks.{call_of, life_of, acts_of}
-use Rattle.kernel_core.specs.Parts.{ended_with, with_end, ends_in, printed_in, parts_of}
+use Rattle.kernel_core.specs.Parts.{ended_with, with_end, ends_in, ends_paths, placed, ordered, printed_in, parts_of}
 
--- ---- tasks in order stay so
+-- ---- tasks and their ends are in one order
 
-placed_first : (t : Ended) (ts : Tasks) → Each (λ (s : Ended). path_less t.path s.path ≡ true) ts → placed t ts ≡ t ∷ ts
-placed_first t [] h = refl
-placed_first t (s ∷ ts) h = rw h.0 refl
+placed_ends : (apps : List AppDef) (t : Ended) (ts : Tasks) → map (task_end apps) (placed_task t ts) ≡ placed (task_end apps t) (map (task_end apps) ts)
+placed_ends apps t [] = refl
+placed_ends apps t (s ∷ ts) = by_test (path_less t.path s.path) (placed_ends apps t ts)
+  where
+    by_test : (b : Bool) → map (task_end apps) (placed_task t ts) ≡ placed (task_end apps t) (map (task_end apps) ts)
+        → map (task_end apps) (if b then t ∷ s ∷ ts else s ∷ placed_task t ts)
+        ≡ (if b then task_end apps t ∷ task_end apps s ∷ map (task_end apps) ts else task_end apps s ∷ placed (task_end apps t) (map (task_end apps) ts))
+    by_test true further = refl
+    by_test false further = ap (λ (es : List TaskEnd). task_end apps s ∷ es) further
 
-order-ascending : (ts : Tasks) → Ascending ts → in_order ts ≡ ts
-order-ascending [] h = refl
-order-ascending (t ∷ ts) h = ap (placed t) (order-ascending ts h.1) ∙ placed_first t ts h.0
+ordered_ends : (apps : List AppDef) (ts : Tasks) → map (task_end apps) (in_order ts) ≡ ordered (map (task_end apps) ts)
+ordered_ends apps [] = refl
+ordered_ends apps (t ∷ ts) = placed_ends apps t (in_order ts) ∙ ap (placed (task_end apps t)) (ordered_ends apps ts)
 
--- ---- numbered calls ascend
+-- ---- distinct paths
 
--- the calls have the numbers behind this one
-abbrev AreBehind : ℕ → List Call → Type 0
-AreBehind k [] = Unit {0}
-AreBehind k (c ∷ cs) = (c.path ≡ suc k ∷ []) × AreBehind (suc k) cs
+not_named : (p : Path) (ts : List Task) → ((k : ℕ) → k < length (map call_of ts) → (get_or (map call_of ts) k no_call).path ≢ p) → list_any (bytes_eq p) (task_paths ts) ≡ false
+not_named p [] ne = refl
+not_named p (t ∷ ts) ne = ap₂ ◌||◌ (by_test (bytes_eq p t.record.path) refl) (not_named p ts (λ k lt. ne (suc k) (omega arith)))
+  where
+    by_test : (b : Bool) → bytes_eq p t.record.path ≡ b → bytes_eq p t.record.path ≡ false
+    by_test true is = absurd (ne 0 (omega arith) (sym ((bytes_eq-Decides p t.record.path).0 is)))
+    by_test false is = is
 
-behind : (n : ℕ) (cs : List Call) → ((k : ℕ) → k < length cs → (get_or cs k no_call).path ≡ suc (n + k) ∷ []) → AreBehind n cs
-behind n [] h = tt
-behind n (c ∷ cs) h = (
-  h 0 (omega arith) ∙ (let same : n + 0 ≡ n = omega arith in ap (λ (m : ℕ). suc m ∷ []) same),
-  behind (suc n) cs (λ k within. h (suc k) (omega arith) ∙ (let same : n + suc k ≡ suc n + k = omega arith in ap (λ (m : ℕ). suc m ∷ []) same)),
+pub tasks-distinct : (ts : List Task) → ((j k : ℕ) → j < length (map call_of ts) → k < length (map call_of ts) → (get_or (map call_of ts) j no_call).path ≡ (get_or (map call_of ts) k no_call).path → j ≡ k)
+    → AreDistinct (task_paths ts)
+tasks-distinct [] once = tt
+tasks-distinct (t ∷ ts) once = (
+  not_named t.record.path ts (λ k lt same. (let is = once (suc k) 0 (omega arith) (omega arith) same in omega arith)),
+  tasks-distinct ts (λ j k lj lk same. (let is = once (suc j) (suc k) (omega arith) (omega arith) same in omega arith)),
 )
 
-above_where : (j k : ℕ) (c : Call) (f : Option Outcome) (ts : Tasks) → j < k → c.path ≡ suc k ∷ [] → Each (λ (s : Ended). path_less (suc j ∷ []) s.path ≡ true) ts → Each (λ (s : Ended). path_less (suc j ∷ []) s.path ≡ true) (tasks_where c f ++ ts)
-above_where j k c None ts lt is each = each
-above_where j k c (Some outcome) ts lt is each = (ap (path_less (suc j ∷ [])) is ∙ less-number [] j k [] [] lt, each)
+none_ended : (apps : List AppDef) (t : Task) (outcome : Option Outcome) (p : Path) (ends : List TaskEnd) → bytes_eq p t.record.path ≡ false → list_any (bytes_eq p) (ends_paths ends) ≡ false
+    → list_any (bytes_eq p) (ends_paths (with_end (ended_with apps t outcome) ends)) ≡ false
+none_ended apps t None p ends other none = none
+none_ended apps t (Some outcome) p ends other none = ap₂ ◌||◌ other none
 
-above : (j k : ℕ) (cs : List Call) (lives : List Life) → j < k → AreBehind k cs → Each (λ (s : Ended). path_less (suc j ∷ []) s.path ≡ true) (known_in cs lives)
-above j k [] lives lt are = tt
-above j k (c ∷ cs) [] lt are = tt
-above j k (c ∷ cs) (life ∷ lives) lt are = above_where j k c (outcome_in life) (known_in cs lives) lt are.0 (above j (suc k) cs lives (omega arith) are.1)
+none_in : (apps : List AppDef) (ts : List Task) (p : Path) → list_any (bytes_eq p) (task_paths ts) ≡ false → list_any (bytes_eq p) (ends_paths (ends_in apps ts)) ≡ false
+none_in apps [] p none = refl
+none_in apps (t ∷ ts) p none =
+    let both = or_parts (bytes_eq p t.record.path) (list_any (bytes_eq p) (task_paths ts)) none in
+    none_ended apps t (outcome_in (life_of t)) p (ends_in apps ts) both.0 (none_in apps ts p both.1)
 
-ascending_where : (k : ℕ) (c : Call) (f : Option Outcome) (ts : Tasks) → c.path ≡ suc k ∷ [] → Each (λ (s : Ended). path_less (suc k ∷ []) s.path ≡ true) ts → Ascending ts → Ascending (tasks_where c f ++ ts)
-ascending_where k c None ts is each rest = rest
-ascending_where k c (Some outcome) ts is each rest = (rw is each, rest)
+distinct_with : (apps : List AppDef) (t : Task) (outcome : Option Outcome) (ends : List TaskEnd) → list_any (bytes_eq t.record.path) (ends_paths ends) ≡ false → AreDistinct (ends_paths ends)
+    → AreDistinct (ends_paths (with_end (ended_with apps t outcome) ends))
+distinct_with apps t None ends none rest = rest
+distinct_with apps t (Some outcome) ends none rest = (none, rest)
 
-ascending : (k : ℕ) (cs : List Call) (lives : List Life) → AreBehind k cs → Ascending (known_in cs lives)
-ascending k [] lives are = tt
-ascending k (c ∷ cs) [] are = tt
-ascending k (c ∷ cs) (life ∷ lives) are = ascending_where k c (outcome_in life) (known_in cs lives) are.0 (above k (suc k) cs lives (omega arith) are.1) (ascending (suc k) cs lives are.1)
-
-pub known-order : (w : Known) → CallsAreNumbered w → in_order (known w) ≡ known w
-known-order w numbered = order-ascending (known w) (ascending 0 w.calls w.lives (behind 0 w.calls (λ k within. numbered k within ∙ (let same : k ≡ 0 + k = omega arith in ap (λ (m : ℕ). suc m ∷ []) same))))
+pub ends-distinct : (apps : List AppDef) (ts : List Task) → AreDistinct (task_paths ts) → AreDistinct (ends_paths (ends_in apps ts))
+ends-distinct apps [] distinct = tt
+ends-distinct apps (t ∷ ts) distinct = distinct_with apps t (outcome_in (life_of t)) (ends_in apps ts) (none_in apps ts t.record.path distinct.0) (ends-distinct apps ts distinct.1)
 
 -- ---- the parts
 
@@ -83,12 +95,14 @@ printed_same cs (step.Print value ∷ steps) = ap (λ (vs : List Value). value �
 printed_same cs (step.Checkpoint ∷ steps) = printed_same cs steps
 
 -- what is given back is the evaluation
-pub parts-are : (v w : Known) (tasks : List Task) (steps : List MainStep) → v ≡ w → v.calls ≡ map call_of tasks → v.lives ≡ map life_of tasks → v.acts ≡ flat_map (acts_of (map call_of tasks)) steps → CallsAreNumbered v
+pub parts-are : (v w : Known) (tasks : List Task) (steps : List MainStep) → v ≡ w → v.calls ≡ map call_of tasks → v.lives ≡ map life_of tasks → v.acts ≡ flat_map (acts_of (map call_of tasks)) steps
     → parts_of (apps_in v) tasks steps v.ending ≡ evaluated w
-parts-are v w tasks steps same calls lives acts numbered =
+parts-are v w tasks steps same calls lives acts =
+    let apps = apps_in v in
     let tasks_are : known_in v.calls v.lives ≡ known_in (map call_of tasks) (map life_of tasks) = rw (calls, lives) refl in
-    let ends : ends_in (apps_in v) tasks ≡ map (task_end (apps_in v)) (in_order (known v)) = ends_known (apps_in v) tasks ∙ ap (map (task_end (apps_in v))) (sym (known-order v numbered ∙ tasks_are)) in
+    let ends : ordered (ends_in apps tasks) ≡ map (task_end apps) (in_order (known v)) =
+    ap ordered (ends_known apps tasks ∙ ap (map (task_end apps)) (sym tasks_are)) ∙ sym (ordered_ends apps (known v)) in
     let printed : printed_in steps ≡ printed_by_acts v.acts = printed_same (map call_of tasks) steps ∙ ap printed_by_acts (sym acts) in
-    ap (λ (values : List Value). record { printed = values; tasks = ends_in (apps_in v) tasks; main = ending_or v.ending }) printed
+    ap (λ (values : List Value). record { printed = values; tasks = ordered (ends_in apps tasks); main = ending_or v.ending }) printed
     ∙ ap (λ (es : List TaskEnd). record { printed = printed_by_acts v.acts; tasks = es; main = ending_or v.ending }) ends
     ∙ ap evaluated same

@@ -17,16 +17,14 @@ use Rattle.call_rules.specs.Groups.{AllKnown}
 use Rattle.task_record.specs.declared.status.Status.{Status}
 use Rattle.task_record.specs.declared.status.Status.TheVariants as status
 use Rattle.task_record.specs.States.{is_settled}
-use Rattle.kernel_model.specs.Known.{Known, Life, no_life, no_call, known, call_at, life_at, status_at, settled_outcome, inputs_at}
-use Rattle.kernel_model.specs.Invariants.{IsReached, Inv}
-use Rattle.kernel_model.specs.PlainScripts.{CallsAreNumbered}
+use Rattle.kernel_model.specs.Known.{Known, Life, no_life, no_call, known, call_at, path_at, life_at, status_at, settled_outcome, inputs_at}
+use Rattle.kernel_model.specs.Invariants.{IsReached, Tracks, Inv}
 use Rattle.kernel_model.specs.Turns.{IsCallback, IsRunning, job_of}
 use Rattle.kernel_model.specs.Jobs.{JobView}
 use Rattle.kernel_model.proofs.Places.{status-within}
 use Rattle.kernel_core.specs.declared.task.Task.{Task}
-use Rattle.kernel_core.specs.Tasks.{call_of, life_of, numbered_tasks, IsIn, NoneIn}
-use Rattle.kernel_core.specs.Turned.{AllSettled, NoCallback, NoJob}
-use Rattle.kernel_core.proofs.Numbered.{NumberedFrom, numbered-known}
+use Rattle.kernel_core.specs.Tasks.{call_of, life_of, IsIn, NoneIn}
+use Rattle.kernel_core.specs.Turned.{AllSettled, NoCallback, NoJob, IsPlaceOf, IsNowhere}
 
 -- ---- lists of tasks
 
@@ -58,21 +56,9 @@ task_at (t ∷ ts) (suc k) within = task_at ts k (omega arith)
 pub record Shows (w : Known) (ts : List Task) : Type 0 where
   pub calls : w.calls ≡ map call_of ts
   pub lives : w.lives ≡ map life_of ts
-  pub numbered : CallsAreNumbered w
 
-pub shows : (v w : Known) (ts : List Task) → v ≡ w → v.calls ≡ map call_of ts → v.lives ≡ map life_of ts → CallsAreNumbered v → Shows w ts
-shows v w ts e calls lives numbered = record { calls = sym (ap (λ (u : Known). u.calls) e) ∙ calls; lives = sym (ap (λ (u : Known). u.lives) e) ∙ lives; numbered = subst CallsAreNumbered e numbered }
-
-numbered_from : (w : Known) (ts : List Task) → Shows w ts → NumberedFrom 0 ts
-numbered_from w ts s k within =
-    let inside : k < length w.calls = rw s.calls within in
-    let path : (get_or (map call_of ts) k no_call).path ≡ suc k ∷ [] = subst (λ (cs : List Call). (get_or cs k no_call).path ≡ suc k ∷ []) s.calls (s.numbered k inside) in
-    let same : suc k ≡ suc (0 + k) = omega arith in
-    path ∙ ap (λ (n : ℕ). n ∷ []) same
-
-pub known-is : (w : Known) (ts us : List Task) → Shows w ts → us ≡ ts → numbered_tasks us ≡ known w
-known-is w ts us s e =
-    ap numbered_tasks e ∙ numbered-known ts (numbered_from w ts s) ∙ rw (s.calls, s.lives) refl
+pub shows : (v w : Known) (ts : List Task) → v ≡ w → v.calls ≡ map call_of ts → v.lives ≡ map life_of ts → Shows w ts
+shows v w ts e calls lives = record { calls = sym (ap (λ (u : Known). u.calls) e) ∙ calls; lives = sym (ap (λ (u : Known). u.lives) e) ∙ lives }
 
 pub life-is : (w : Known) (ts : List Task) (k : ℕ) (t : Task) → Shows w ts → k < length ts → t ≡ get_or ts k t → life_at w k ≡ life_of t
 life-is w ts k t s within is = ap (λ (lives : List Life). get_or lives k no_life) s.lives ∙ life_read ts k t within is
@@ -135,10 +121,9 @@ pub item-read : {X : Type 0} (xs : List X) (i : ℕ) (r : Option (Bor X)) → Is
 item-read xs i None at = slice_get_past xs i at.3
 item-read xs i (Some x) at = slice_get_read xs (length xs) i x.now refl at.3.0 at.1
 
-pub readiness-is : (w : Known) (ts us : List Task) (k : ℕ) (t : Task) (arguments : List Value) → Shows w ts → us ≡ ts → k < length ts → t ≡ get_or ts k t → arguments ≡ t.record.arguments → ready (numbered_tasks us) arguments ≡ ready (known w) (call_at w k).arguments
-readiness-is w ts us k t arguments s same within is given =
+pub readiness-is : (w : Known) (ts : List Task) (found : Tasks) (k : ℕ) (t : Task) (arguments : List Value) → Shows w ts → found ≡ known w → k < length ts → t ≡ get_or ts k t → arguments ≡ t.record.arguments → ready found arguments ≡ ready (known w) (call_at w k).arguments
+readiness-is w ts found k t arguments s first within is given =
     let calls = call-is w ts k t s within is in
-    let first : numbered_tasks us ≡ known w = known-is w ts us s same in
     let second : arguments ≡ (call_at w k).arguments = given ∙ ap (λ (c : Call). c.arguments) (sym calls) in
     ap (λ (tasks : Tasks). ready tasks arguments) first ∙ ap (ready (known w)) second
 
@@ -152,13 +137,12 @@ known_all : (ts : Tasks) (ps : List Path) → AllKnown ts ps → list_all (λ p.
 known_all ts [] h = refl
 known_all ts (p ∷ ps) h = and_from (is_some (outcome_at ts p)) (list_all (λ p. is_some (outcome_at ts p)) ps) h.0 (known_all ts ps h.1)
 
-pub callback-is : (w : Known) (ts us : List Task) (k : ℕ) (t : Task) (arguments : List Value) (answer : Bool) → Shows w ts → us ≡ ts → k < length w.calls → t ≡ get_or ts k t → t.record.status ≡ status.Pending → arguments ≡ t.record.arguments
-    → answer ≡ list_all (λ p. is_some (outcome_at (numbered_tasks us) p)) (inputs arguments) → IsTrue answer ↔ IsCallback w k
-callback-is w ts us k t arguments answer s same within is pending given answers =
+pub callback-is : (w : Known) (ts : List Task) (found : Tasks) (k : ℕ) (t : Task) (arguments : List Value) (answer : Bool) → Shows w ts → found ≡ known w → k < length w.calls → t ≡ get_or ts k t → t.record.status ≡ status.Pending → arguments ≡ t.record.arguments
+    → answer ≡ list_all (λ p. is_some (outcome_at found p)) (inputs arguments) → IsTrue answer ↔ IsCallback w k
+callback-is w ts found k t arguments answer s first within is pending given answers =
     let inside : k < length ts = call-within w ts k s within in
     let lives = life-is w ts k t s inside is in
     let calls = call-is w ts k t s inside is in
-    let first : numbered_tasks us ≡ known w = known-is w ts us s same in
     let second : inputs arguments ≡ inputs_at w k = ap inputs (given ∙ ap (λ (c : Call). c.arguments) (sym calls)) in
     let tested : answer ≡ list_all (λ p. is_some (outcome_at (known w) p)) (inputs_at w k) = rw (← first, ← second) answers in (
       (λ yes. record { pending = ap (λ (life : Life). life.status) lives ∙ pending; inputs = all_known (known w) (inputs_at w k) (sym tested ∙ yes) }),
@@ -192,47 +176,57 @@ same_job i j path attempt manager app arguments names =
     ∙ ap (λ (x : List Value). job_with j.path j.attempt j.manager j.app x i.names) arguments
     ∙ ap (λ (x : List Text). job_with j.path j.attempt j.manager j.app j.arguments x) names
 
-pub job-is : (w : Known) (ts us : List Task) (k : ℕ) (t : Task) (arguments : List Value) → Shows w ts → us ≡ ts → status_at w k ≡ status.Launched → t ≡ get_or ts k t → arguments ≡ t.record.arguments
-    → record { path = t.record.path; attempt = t.record.attempts; manager = 1; app = t.record.app; arguments = resolved (numbered_tasks us) arguments; names = t.record.names } ≡ job_of w k
-job-is w ts us k t arguments s same launched is given =
+pub job-is : (w : Known) (ts : List Task) (found : Tasks) (k : ℕ) (t : Task) (arguments : List Value) → Shows w ts → found ≡ known w → status_at w k ≡ status.Launched → t ≡ get_or ts k t → arguments ≡ t.record.arguments
+    → record { path = t.record.path; attempt = t.record.attempts; manager = 1; app = t.record.app; arguments = resolved found arguments; names = t.record.names } ≡ job_of w k
+job-is w ts found k t arguments s first launched is given =
     let within : k < length ts = begun-within w ts k s (λ e. cc) in
     let calls = call-is w ts k t s within is in
     let lives = life-is w ts k t s within is in
-    let first : numbered_tasks us ≡ known w = known-is w ts us s same in
     let second : arguments ≡ (call_at w k).arguments = given ∙ ap (λ (c : Call). c.arguments) (sym calls) in
-    let resolves : resolved (numbered_tasks us) arguments ≡ resolved (known w) (call_at w k).arguments = ap (λ (tasks : Tasks). resolved tasks arguments) first ∙ ap (resolved (known w)) second in
+    let resolves : resolved found arguments ≡ resolved (known w) (call_at w k).arguments = ap (λ (tasks : Tasks). resolved tasks arguments) first ∙ ap (resolved (known w)) second in
     same_job _ (job_of w k) (sym (ap (λ (c : Call). c.path) calls)) (sym (ap (λ (life : Life). life.attempts) lives)) refl (sym (ap (λ (c : Call). c.app) calls)) resolves (sym (ap (λ (c : Call). c.names) calls))
 
 -- a task whose record is that of the job
-pub record IsOfJob (t : Task) (job : JobView) (k : ℕ) : Type 0 where
+pub record IsOfJob (w : Known) (t : Task) (job : JobView) (k : ℕ) : Type 0 where
   pub state : t.record.status ≡ status.Running
-  pub path : job.path ≡ suc k ∷ []
+  pub path : job.path ≡ path_at w k
   pub attempt : t.record.attempts ≡ job.attempt
   pub manager : job.manager ≡ 1
   pub app : t.record.app ≡ job.app
   pub names : t.record.names ≡ job.names
 
-pub running-is : (w : Known) (ts us : List Task) (k : ℕ) (t : Task) (job : JobView) (arguments values : List Value) (answer : Bool) → Shows w ts → us ≡ ts → k < length w.calls → t ≡ get_or ts k t → IsOfJob t job k → arguments ≡ t.record.arguments → values ≡ job.arguments
-    → IsTrue answer ↔ (resolved (numbered_tasks us) arguments ≡ values) → IsTrue answer ↔ IsRunning w job k
-running-is w ts us k t job arguments values answer s same within is of given wanted answers =
+pub running-is : (w : Known) (ts : List Task) (found : Tasks) (k : ℕ) (t : Task) (job : JobView) (arguments values : List Value) (answer : Bool) → Shows w ts → found ≡ known w → k < length w.calls → t ≡ get_or ts k t → IsOfJob w t job k → arguments ≡ t.record.arguments → values ≡ job.arguments
+    → IsTrue answer ↔ (resolved found arguments ≡ values) → IsTrue answer ↔ IsRunning w job k
+running-is w ts found k t job arguments values answer s first within is of given wanted answers =
     let inside : k < length ts = call-within w ts k s within in
     let lives = life-is w ts k t s inside is in
     let calls = call-is w ts k t s inside is in
-    let first : numbered_tasks us ≡ known w = known-is w ts us s same in
     let second : arguments ≡ (call_at w k).arguments = given ∙ ap (λ (c : Call). c.arguments) (sym calls) in
-    let resolves : resolved (numbered_tasks us) arguments ≡ resolved (known w) (call_at w k).arguments = ap (λ (tasks : Tasks). resolved tasks arguments) first ∙ ap (resolved (known w)) second in (
+    let resolves : resolved found arguments ≡ resolved (known w) (call_at w k).arguments = ap (λ (tasks : Tasks). resolved tasks arguments) first ∙ ap (resolved (known w)) second in (
       (λ yes. record {
         running = ap (λ (life : Life). life.status) lives ∙ of.state;
-        is = same_job job (job_of w k) (of.path ∙ sym (s.numbered k within)) (sym of.attempt ∙ sym (ap (λ (life : Life). life.attempts) lives)) of.manager (sym of.app ∙ sym (ap (λ (c : Call). c.app) calls)) (sym wanted ∙ sym (answers.0 yes) ∙ resolves) (sym of.names ∙ sym (ap (λ (c : Call). c.names) calls));
+        is = same_job job (job_of w k) of.path (sym of.attempt ∙ sym (ap (λ (life : Life). life.attempts) lives)) of.manager (sym of.app ∙ sym (ap (λ (c : Call). c.app) calls)) (sym wanted ∙ sym (answers.0 yes) ∙ resolves) (sym of.names ∙ sym (ap (λ (c : Call). c.names) calls));
       }),
       (λ runs. answers.1 (resolves ∙ sym (ap (λ (j : JobView). j.arguments) runs.is) ∙ sym wanted)),
     )
 
+-- a running task is at the place of its job's path
+place_of : (w : Known) (job : JobView) (k : ℕ) → Tracks w → IsRunning w job k → IsPlaceOf w job.path k
+place_of w job k tracks runs = record {
+  within = status-within w tracks.lives k (λ e. absurd (let is = runs.running in cc));
+  is = ap (λ (j : JobView). j.path) (sym runs.is);
+}
+
 -- a job of another path is of no call
-pub no-number : (w : Known) (ts : List Task) (job : JobView) → Shows w ts → ((k : ℕ) → job.path ≢ suc k ∷ []) → NoJob w job
-no-number w ts job s none k runs =
-    let within : k < length w.calls = task-within w ts k s (begun-within w ts k s (λ e. absurd (let is = runs.running in cc))) in
-    none k (ap (λ (j : JobView). j.path) runs.is ∙ s.numbered k within)
+pub no-place : (w : Known) (job : JobView) → Tracks w → IsNowhere w job.path → NoJob w job
+no-place w job tracks none k runs = none k (place_of w job k tracks runs)
+
+-- nor is one whose task doesn't run with it
+pub no-job : (w : Known) (job : JobView) (k : ℕ) → Tracks w → IsPlaceOf w job.path k → (IsRunning w job k → ⊥) → NoJob w job
+no-job w job k tracks at idle j runs =
+    let there = place_of w job j tracks runs in
+    let same : j ≡ k = tracks.distinct j k there.within at.within (there.is ∙ sym at.is) in
+    idle (subst (IsRunning w job) same runs)
 
 -- ---- settled tasks
 

@@ -1,5 +1,5 @@
 -- What a write of one task, a new task or an entry more does to what is known of a run.
-use Rattle.std.proofs.Common.{◌≡◌, ◌≢◌, ℕ, zero, suc, ◌+◌, ◌<◌, ◌≤◌, List, [], ◌∷◌, ◌++◌, length, map, reverse, Some, None, IsSome, get_or, set, refl, sym, ◌∙◌, ap, subst, arith}
+use Rattle.std.proofs.Common.{◌≡◌, ◌≢◌, ℕ, zero, suc, ◌+◌, ◌^◌, ◌<◌, ◌≤◌, List, [], ◌∷◌, ◌++◌, length, map, reverse, Some, None, IsSome, get_or, set, refl, sym, ◌∙◌, ap, subst, arith}
 use Rattle.std.specs.Prelude.{slice_get, flat_map}
 use Rattle.std.proofs.lemmas.List.{get_or-map, map-set, reverse-append, get_or-set_other, get_or-set_same, get_or_append_left, length-map}
 use Rattle.flow_meaning.specs.declared.walk.Answer.{Answer}
@@ -8,16 +8,18 @@ use Rattle.flow_meaning.specs.Sequential.{MainAct, Calls, Waits, Prints, Checkpo
 use Rattle.task_record.specs.declared.status.Status.{Status}
 use Rattle.task_record.specs.declared.status.Status.TheVariants as status
 use Rattle.event_log.specs.declared.entry.Entry.{Entry}
+use Rattle.flow_meaning.specs.Inputs.{Path}
+use Rattle.script_tree.specs.Grammar.{Tree}
 use Rattle.call_rules.specs.Calls.{Call}
+use Rattle.history_laws.specs.Reads.{submits}
 use Rattle.kernel_model.specs.Known.{Known, Life, no_call, no_life, call_at, life_at, status_at, outcome_in}
 use Rattle.kernel_model.specs.Acts.{pending, future_of, put}
 use Rattle.kernel_model.specs.Invariants.{Inv}
 use Rattle.kernel_model.specs.Limits.{passed, stored}
-use Rattle.kernel_model.proofs.Numbered.{numbered-same}
 use Rattle.kernel_model.proofs.Passing.{passed-stays}
 use Rattle.kernel_model.proofs.Places.{outcome-pushed, length-pushed}
 use Rattle.kernel_core.specs.Tasks.{call_of, life_of, answer_of, acts_of, AreOver, runs, running_in}
-use Rattle.kernel_core.specs.Views.{Opens, IsFact, IsSound}
+use Rattle.kernel_core.specs.Views.{IsFact, IsSound, IsIndexed}
 use Rattle.kernel_core.specs.declared.task.Task.{Task}
 use Rattle.kernel_core.specs.declared.run_state.MainStep.{MainStep}
 use Rattle.kernel_core.specs.declared.run_state.MainStep.TheVariants as step
@@ -211,8 +213,7 @@ wrote w v tasks steps log same_log log_after running running_after units units_a
     let was = sound.running in
     let fact_after : IsFact v = record {
       inv = inv;
-      opens = subst (λ (x : Known). Opens x.tree) is fact.opens;
-      numbered = numbered-same w v (ap (λ (x : Known). x.calls) (sym is)) fact.numbered;
+      few_apps = subst (λ (x : Known). length x.tree.0 < 2 ^ 32) is fact.few_apps;
       within = limits;
     } in
     record {
@@ -231,11 +232,25 @@ pub sound-same : (w v : Known) (tasks : List Task) (steps : List MainStep) (runn
 sound-same w v tasks steps running units sound inv tree calls same = record {
   fact = record {
     inv = inv;
-    opens = subst Opens (sym tree) sound.fact.opens;
-    numbered = numbered-same w v calls sound.fact.numbered;
+    few_apps = subst (λ (t : Tree). length t.0 < 2 ^ 32) (sym tree) sound.fact.few_apps;
     within = passed-stays w v (ap length calls) same sound.fact.within;
   };
   over = sound.over;
   running = sound.running;
   units_are = sound.units_are ∙ sym same;
 }
+
+-- ---- the table of paths
+
+-- the table stays right where calls and submissions stay
+pub indexed-same : (w v : Known) (places : List Path) (mains : ℕ) → IsIndexed w places mains → v.calls ≡ w.calls → submits v.past ≡ submits w.past → IsIndexed v places mains
+indexed-same w v places mains h calls submissions = record {
+  placed = h.placed ∙ ap (λ (cs : List Call). map (λ (c : Call). c.path) cs) (sym calls);
+  mains_are = h.mains_are ∙ sym submissions;
+  few = subst (λ (cs : List Call). mains ≤ length cs) (sym calls) h.few;
+}
+
+-- so it does behind an act, whose view is another one of a state that was seen as `u`
+pub indexed-behind : (w u v x : Known) (places : List Path) (mains : ℕ) → w ≡ u → IsIndexed w places mains → v.calls ≡ u.calls → submits v.past ≡ submits u.past → x ≡ v → IsIndexed x places mains
+indexed-behind w u v x places mains view h calls submissions is =
+    subst (λ (y : Known). IsIndexed y places mains) (sym is) (indexed-same u v places mains (subst (λ (y : Known). IsIndexed y places mains) view h) calls submissions)

@@ -39,7 +39,7 @@ pub path-is : (w : Known) (tasks : List Task) (k : ℕ) (t : Task) (s : Status) 
 path-is w tasks k t s known = sym (ap (λ (c : Call). c.path) known.call)
 
 abbrev pub with-record : Task → TaskRecord → Task
-with-record t r = record { «record» = r; end = t.end }
+with-record t r = record { «record» = r; end = t.end; ran = t.ran }
 
 -- ---- a launch
 
@@ -122,7 +122,7 @@ abbrev pub ended-record : TaskRecord → TaskRecord
 ended-record r = record r { status = status.RunningEnded }
 
 abbrev pub ended-task : Task → Outcome → Task
-ended-task t outcome = record { «record» = t.record; end = Some outcome }
+ended-task t outcome = record { «record» = t.record; end = Some outcome; ran = t.ran }
 
 pub finish-keeps : (w v : Known) (tasks : List Task) (steps : List MainStep) (log log_after : List Entry) (running units k : ℕ) (t u s : Task) (r : TaskRecord) (path : Path) (attempt : ℕ) (word : List ℕ) (outcome : Outcome) → w ≡ v → Keeps w tasks steps log running units → CanFinish v k outcome
     → t ≡ get_or tasks k t → r ≡ ended-record t.record
@@ -140,10 +140,11 @@ finish-keeps w v tasks steps log log_after running units k t u s r path attempt 
     let here : path ≡ path_at w k = is_path ∙ ap (λ (u : Known). path_at u k) (sym view) in
     let back = written-back tasks k (with-record t r) s known.within at_s in
     let of_record : s.record ≡ r = ap (λ (t : Task). t.record) back in
+    let of_body : s.ran ≡ t.ran = ap (λ (t : Task). t.ran) back in
     let number : attempt ≡ (life_at w k).attempts = is_attempt ∙ ap (λ (l : Life). l.attempts) (sym second.life) in
     let busy : runs t.record.status ≡ 1 = ap runs known.state in
     let out : runs s.record.status ≡ 0 = ap (λ (r : TaskRecord). runs r.status) (of_record ∙ is_r) in
-    let is : put w k (life_of (ended-task s outcome)) (entry.Ended path attempt 1 word) ≡ finished w k outcome = rw (of_record, is_r, here, is_word, number, known.life) refl in
+    let is : put w k (life_of (ended-task s outcome)) (entry.Ended path attempt 1 word) ≡ finished w k outcome = rw (of_record, of_body, is_r, here, is_word, number, known.life) refl in
     let as_many = stored-finished w k outcome none in
     rw (set-set tasks k (with-record t r) (ended-task s outcome))
     (subst (λ (u : Known). Wrote w (finished u k outcome) (set tasks k (ended-task s outcome)) steps log_after (running - 1) units) view
@@ -185,10 +186,11 @@ fail-keeps w v tasks steps log same_log log_after running units k t u s r path e
     let here : path ≡ path_at w k = is_path ∙ path-is w tasks k u status.Pending first in
     let back = written-back tasks k (with-record t r) s known.within at_s in
     let of_record : s.record ≡ r = ap (λ (t : Task). t.record) back in
+    let of_body : s.ran ≡ t.ran = ap (λ (t : Task). t.ran) back in
     let idle : runs t.record.status ≡ 0 = ap runs known.state in
     let rests : runs state ≡ 0 = rw is_state (failed-state (λ s. runs s ≡ 0) refl refl exception) in
     let out : runs s.record.status ≡ 0 = ap (λ (r : TaskRecord). runs r.status) (of_record ∙ is_r) ∙ rests in
-    let is : put w k (life_of (ended-task s outcome)) (entry.Settled path state) ≡ settled_as w k outcome = rw (of_record, is_r, here, is_state, known.life) refl in
+    let is : put w k (life_of (ended-task s outcome)) (entry.Settled path state) ≡ settled_as w k outcome = rw (of_record, of_body, is_r, here, is_state, known.life) refl in
     let sum = stored-settled_as w k outcome known.lived none in
     let as_many : stored (settled_as w k outcome) ≡ stored w = omega (arith, sum) in
     rw (set-set tasks k (with-record t r) (ended-task s outcome))

@@ -1,16 +1,18 @@
 -- What is read from the tasks of a kernel, by path and by name.
-use Rattle.std.proofs.Common.{◌≡◌, ◌≢◌, ℕ, zero, suc, ◌+◌, ◌<◌, true, List, [], ◌∷◌, ◌++◌, length, take, Option, Some, None, get_or, bytes_eq, refl, sym, ◌∙◌, ap, arith}
+use Rattle.std.proofs.Common.{◌≡◌, ℕ, zero, suc, ◌+◌, ◌<◌, ◌≤◌, true, List, [], ◌∷◌, length, map, take, Option, Some, None, get_or, bytes_eq, refl, sym, ◌∙◌, ap, arith}
+use Rattle.std.specs.Prelude.{option_map, slice_get}
 use Rattle.std.proofs.lemmas.List.{get_or_read, take_more_same}
 use Rattle.std.proofs.lemmas.Slice.Eq.{bytes_eq-Decides}
 use Rattle.flow_base.specs.declared.outcome.Outcome.{Outcome}
 use Rattle.flow_meaning.specs.Inputs.{Path}
 use Rattle.flow_meaning.specs.Operators.{Text}
-use Rattle.flow_meaning.specs.Sequential.{Tasks, outcome_at}
-use Rattle.call_rules.specs.Calls.{Call}
-use Rattle.kernel_model.specs.Known.{outcome_in, tasks_where}
-use Rattle.kernel_model.proofs.Reading.{path-same, path-other}
+use Rattle.flow_meaning.specs.Sequential.{Task as TaskOf, outcome_at}
+use Rattle.call_rules.specs.Calls.{Call, task_of}
+use Rattle.dependency_graph.specs.Places.{place_in, AreDistinct, task_there, task_at_place}
+use Rattle.dependency_graph.proofs.Places.{outcome-there, outcome_of_task}
+use Rattle.kernel_model.specs.Known.{outcome_in}
 use Rattle.kernel_core.specs.declared.task.Task.{Task}
-use Rattle.kernel_core.specs.Tasks.{call_of, life_of, numbered_from, numbered_tasks}
+use Rattle.kernel_core.specs.Tasks.{call_of, life_of, settled_task, tasks_by}
 
 -- ---- names
 
@@ -19,38 +21,32 @@ names-more names others i n o within same at_names at_others is first =
     let equal : n ≡ o = (bytes_eq-Decides n o).0 is in
     take_more_same names others i n within (omega arith) first (sym at_names ∙ equal ∙ get_or_read others i o (omega arith) at_others n)
 
--- ---- the tasks that are settled, by their numbers
+-- ---- the tasks that are settled, by their paths
 
-front_other : (c : Call) (f : Option Outcome) (ts : Tasks) (p : Path) → c.path ≢ p → outcome_at (tasks_where c f ++ ts) p ≡ outcome_at ts p
-front_other c None ts p ne = refl
-front_other c (Some outcome) ts p ne = rw (path-other c.path p ne) refl
+there : (places : List Path) (ts : List Task) (p : Path) → AreDistinct places → (place : Option ℕ) → place ≡ place_in places p → outcome_at (tasks_by places ts) p ≡ outcome_of_task (task_at_place (map settled_task ts) place)
+there places ts p distinct place is = outcome-there places (map settled_task ts) p distinct ∙ ap (λ (k : Option ℕ). outcome_of_task (task_at_place (map settled_task ts) k)) (sym is)
 
-front_same : (c : Call) (f : Option Outcome) (ts : Tasks) (p : Path) → c.path ≡ p → outcome_at ts p ≡ None → outcome_at (tasks_where c f ++ ts) p ≡ f
-front_same c None ts p same none = none
-front_same c (Some outcome) ts p same none = rw (same, path-same p) refl
+outcome_of : (c : Call) (found : Option Outcome) → outcome_of_task (option_map (task_of c) found) ≡ found
+outcome_of c None = refl
+outcome_of c (Some outcome) = refl
 
-numbered_missing : (j : ℕ) (ts : List Task) (p : Path) → ((k : ℕ) → k < length ts → p ≢ suc (j + k) ∷ []) → outcome_at (numbered_from j ts) p ≡ None
-numbered_missing j [] p other = refl
-numbered_missing j (t ∷ ts) p other =
-    front_other (record (call_of t) { path = suc j ∷ [] }) (outcome_in (life_of t)) (numbered_from (suc j) ts) p (λ e. other 0 (omega arith) (let same : j ≡ j + 0 = omega arith in sym e ∙ ap (λ (n : ℕ). suc n ∷ []) same))
-    ∙ numbered_missing (suc j) ts p (λ k within e. other (suc k) (omega arith) (let same : suc j + k ≡ j + suc k = omega arith in e ∙ ap (λ (n : ℕ). suc n ∷ []) same))
+past : (ts : List Task) (k : ℕ) → length ts ≤ k → outcome_of_task (task_there (slice_get (map settled_task ts) k)) ≡ None
+past [] k h = refl
+past (t ∷ ts) zero h = absurd (omega arith)
+past (t ∷ ts) (suc k) h = past ts k (omega arith)
 
-numbered_at : (j : ℕ) (ts : List Task) (i k : ℕ) (t : Task) → i ≡ j + k → k < length ts → t ≡ get_or ts k t → outcome_at (numbered_from j ts) (suc i ∷ []) ≡ outcome_in (life_of t)
-numbered_at j [] i k t sum within is = absurd (omega arith)
-numbered_at j (u ∷ ts) i zero t sum within is =
-    let same : j ≡ i = omega arith in
-    front_same (record (call_of u) { path = suc j ∷ [] }) (outcome_in (life_of u)) (numbered_from (suc j) ts) (suc i ∷ []) (ap (λ (n : ℕ). suc n ∷ []) same)
-    (numbered_missing (suc j) ts (suc i ∷ []) (λ k below e. let equal : i ≡ suc j + k = cc e in absurd (omega arith)))
-    ∙ ap (λ (u : Task). outcome_in (life_of u)) (sym is)
-numbered_at j (u ∷ ts) i (suc k) t sum within is =
-    front_other (record (call_of u) { path = suc j ∷ [] }) (outcome_in (life_of u)) (numbered_from (suc j) ts) (suc i ∷ []) (λ e. let equal : j ≡ i = cc e in absurd (omega arith))
-    ∙ numbered_at (suc j) ts i k t (omega arith) (omega arith) is
+at_place : (ts : List Task) (k : ℕ) (t : Task) → k < length ts → t ≡ get_or ts k t → outcome_of_task (task_there (slice_get (map settled_task ts) k)) ≡ outcome_in (life_of t)
+at_place [] k t within is = absurd (omega arith)
+at_place (u ∷ ts) zero t within is = outcome_of (call_of u) (outcome_in (life_of u)) ∙ ap (λ (u : Task). outcome_in (life_of u)) (sym is)
+at_place (u ∷ ts) (suc k) t within is = at_place ts k t (omega arith) is
 
-pub outcome-found : (ts : List Task) (p : Path) (k : ℕ) (t : Task) → p ≡ suc k ∷ [] → k < length ts → t ≡ get_or ts k t → outcome_at (numbered_tasks ts) p ≡ outcome_in (life_of t)
-outcome-found ts p k t same within is = ap (outcome_at (numbered_tasks ts)) same ∙ numbered_at 0 ts k k t (omega arith) within is
+-- a path without a place
+pub outcome-nowhere : (places : List Path) (ts : List Task) (p : Path) → AreDistinct places → None ≡ place_in places p → None ≡ outcome_at (tasks_by places ts) p
+outcome-nowhere places ts p distinct is = sym (there places ts p distinct None is)
 
-pub outcome-missing : (ts : List Task) (p : Path) → ((k : ℕ) → k < length ts → p ≢ suc k ∷ []) → None ≡ outcome_at (numbered_tasks ts) p
-outcome-missing ts p past = sym (numbered_missing 0 ts p (λ k within e. let same : 0 + k ≡ k = omega arith in past k within (e ∙ ap (λ (n : ℕ). suc n ∷ []) same)))
+-- a place without a task
+pub outcome-missing : (places : List Path) (ts : List Task) (p : Path) (k : ℕ) → AreDistinct places → Some k ≡ place_in places p → length ts ≤ k → None ≡ outcome_at (tasks_by places ts) p
+outcome-missing places ts p k distinct is h = sym (there places ts p distinct (Some k) is ∙ past ts k h)
 
-pub number-same : (j k : ℕ) → suc j ∷ [] ≡ suc k ∷ [] → j ≡ k
-number-same j k e = cc
+pub outcome-found : (places : List Path) (ts : List Task) (p : Path) (k : ℕ) (t : Task) → AreDistinct places → Some k ≡ place_in places p → k < length ts → t ≡ get_or ts k t → outcome_in (life_of t) ≡ outcome_at (tasks_by places ts) p
+outcome-found places ts p k t distinct is within at = sym (there places ts p distinct (Some k) is ∙ at_place ts k t within at)

@@ -1,8 +1,11 @@
 -- What the turns of tasks do.
-use Rattle.std.proofs.Common.{◌≡◌, ℕ, Bool, false, List, Option, Some, None, refl, sym, ◌∙◌, ap, subst}
-use Rattle.std.specs.Prelude.{IsSome, if◌then◌else◌, slice_get}
+use Rattle.std.proofs.Common.{◌≡◌, ◌≢◌, ℕ, ◌+◌, ◌<◌, ◌≤◌, inl, inr, Bool, true, false, List, length, Option, Some, None, refl, sym, ◌∙◌, ap, subst, arith}
+use Rattle.std.specs.Prelude.{IsSome, IsTrue, ◌↔◌, if◌then◌else◌, slice_get, option_map}
+use Rattle.std.proofs.lemmas.Bool.{cases_lt}
 use Rattle.flow_base.specs.declared.value.Value.{Value}
+use Rattle.flow_base.specs.declared.outcome.Ended.{Ended}
 use Rattle.flow_base.specs.declared.outcome.Exception.{Exception}
+use Rattle.flow_base.specs.declared.outcome.Exception.TheVariants as x
 use Rattle.flow_base.specs.declared.outcome.Outcome.{Outcome}
 use Rattle.flow_base.specs.declared.outcome.Outcome.TheVariants as o
 use Rattle.script_tree.specs.declared.tree.AppDef.{AppDef}
@@ -12,51 +15,105 @@ use Rattle.flow_meaning.specs.Evaluations.{no_losses}
 use Rattle.dependency_graph.specs.declared.readiness.Readiness.{Readiness}
 use Rattle.dependency_graph.specs.declared.readiness.Readiness.TheVariants as readiness
 use Rattle.dependency_graph.specs.Readiness.{ready}
-use Rattle.call_rules.specs.Calls.{Fails, Attempts, begin_ready, begin_join, has_room, call_outcome, outcome_with}
-use Rattle.call_rules.specs.PlainScripts.{NoJoins}
+use Rattle.call_rules.specs.Calls.{Fails, Attempts, awaited, begin_ready, begin_join, has_room, call_outcome, outcome_with}
+use Rattle.call_rules.specs.Groups.{AllKnown}
 use Rattle.call_rules.proofs.Agreeing.{begin-attempts, runs-on}
+use Rattle.call_rules.proofs.Tasks.{same-some}
+use Rattle.join_apps.specs.Bodies.{result_of}
+use Rattle.kernel_model.specs.declared.answers.Refusal.{Refusal}
+use Rattle.kernel_model.specs.declared.answers.Refusal.TheVariants.{NoMemory, TaskLimit, StoreLimit}
 use Rattle.kernel_model.specs.Jobs.{JobView, DoneView}
-use Rattle.kernel_model.specs.Known.{Known, call_at, path_at, life_at, status_at, known, begin_at, apps_in, has_ended}
+use Rattle.kernel_model.specs.Known.{Known, Life, call_at, path_at, life_at, status_at, known, begin_at, apps_in, has_ended}
 use Rattle.kernel_model.specs.Invariants.{HasRun, IsReached, Inv}
 use Rattle.kernel_model.specs.Acts.{settled_as, launched}
-use Rattle.kernel_model.specs.Turns.{IsCallback, CallbackTurn, carried_out, CarriesOut, begins, Settles, IsEndOf, IsRunning, body_end, job_of}
+use Rattle.kernel_model.specs.Limits.{IsRefusedFor}
+use Rattle.kernel_model.specs.Turns.{IsCallback, IsJoinDone, carried_out, CarriesOut, begins, ends, Settles, IsEndOf, IsRunning, body_end, job_of}
 use Rattle.kernel_model.specs.Conditions.{CanFinish}
 use Rattle.kernel_model.proofs.Places.{run-within}
-use Rattle.kernel_model.proofs.PlainScripts.{plain-join_done}
+use Rattle.kernel_core.specs.declared.beginning.Beginning.{Beginning}
+use Rattle.kernel_core.specs.declared.beginning.Beginning.TheVariants as beginning
+use Rattle.kernel_core.specs.declared.task.Task.{Task}
 use Rattle.kernel_core.specs.Jobs.{FitsApps}
+use Rattle.kernel_core.specs.Joins.{JoinEnds}
+use Rattle.kernel_core.specs.Tasks.{life_of}
 use Rattle.kernel_core.specs.Views.{IsFact}
-use Rattle.kernel_core.specs.Turned.{NoCallback, beginning_of, IsAttempt, BeginsWith}
+use Rattle.kernel_core.specs.Turned.{NoJoinDone, beginning_of, IsAttempt, BeginsWith}
+use Rattle.kernel_core.proofs.RunReadings.{Shows, begun-within}
 
 pub fact-is : (v w : Known) → v ≡ w → IsFact v → IsFact w
 fact-is v w e fact = subst IsFact e fact
 
 -- ---- how a call begins
 
-begin_is : (w : Known) (k : ℕ) (app : Option AppDef) (r : Readiness) → slice_get (apps_in w) (call_at w k).app ≡ app → ready (known w) (call_at w k).arguments ≡ r → begin_at w k ≡ begin_ready (path_at w k) app r
-begin_is w k app r at e = ap (λ (a : Option AppDef). begin_ready (path_at w k) a (ready (known w) (call_at w k).arguments)) at ∙ ap (begin_ready (path_at w k) app) e
+-- by its app, and whether its path has room
+begins_so : (w : Known) (k : ℕ) (app : AppDef) (values : List Value) (join room : Bool) → begin_at w k ≡ (if join then begin_join room app values else Attempts app values)
+    → BeginsWith w k (if join then (if room then beginning.Joins values else beginning.Fails x.DepthError) else beginning.Attempts)
+begins_so w k app values true true is = record { app = app; begins = is }
+begins_so w k app values true false is = is
+begins_so w k app values false room is = record { app = app; values = values; begins = is }
 
-attempts : (w : Known) (k : ℕ) (app : AppDef) (values : List Value) → app.join ≡ false → begin_at w k ≡ begin_ready (path_at w k) (Some app) (readiness.Runs values) → begin_at w k ≡ Attempts app values
-attempts w k app values plain is = is ∙ ap (λ (join : Bool). if join then begin_join (has_room (path_at w k)) app values else Attempts app values) plain
+begins_with : (w : Known) (k : ℕ) (app : Option AppDef) (r : Readiness) → begin_at w k ≡ begin_ready (path_at w k) app r → BeginsWith w k (beginning_of app (has_room (path_at w k)) r)
+begins_with w k app (readiness.Settles exception) is = is
+begins_with w k None (readiness.Runs values) is = is
+begins_with w k (Some app) (readiness.Runs values) is = begins_so w k app values app.join (has_room (path_at w k)) is
 
-begins_with : (w : Known) (k : ℕ) → NoJoins w.tree → (app : Option AppDef) (r : Readiness) → slice_get (apps_in w) (call_at w k).app ≡ app → begin_at w k ≡ begin_ready (path_at w k) app r → BeginsWith w k (beginning_of app r)
-begins_with w k none app (readiness.Settles exception) at is = is
-begins_with w k none None (readiness.Runs values) at is = is
-begins_with w k none (Some app) (readiness.Runs values) at is = record { app = app; values = values; begins = attempts w k app values (none (call_at w k).app app at) is }
-
--- the exception that settles a call at once, or none where it is attempted
-pub begins-with : (w : Known) (k : ℕ) (app : Option AppDef) (r : Readiness) (answer : Option Exception) → IsFact w → slice_get (apps_in w) (call_at w k).app ≡ app → r ≡ ready (known w) (call_at w k).arguments → answer ≡ beginning_of app r → BeginsWith w k answer
-begins-with w k app r answer fact at is same = subst (BeginsWith w k) (sym same) (begins_with w k fact.opens.plain app r at (begin_is w k app r at (sym is)))
+pub begins-with : (w : Known) (k : ℕ) (app : Option AppDef) (room : Bool) (r : Readiness) (answer : Beginning) → slice_get (apps_in w) (call_at w k).app ≡ app → room ≡ has_room (path_at w k) → r ≡ ready (known w) (call_at w k).arguments → answer ≡ beginning_of app room r → BeginsWith w k answer
+begins-with w k app room r answer at roomy is same =
+    let begins_as : begin_at w k ≡ begin_ready (path_at w k) app r = ap (λ (a : Option AppDef). begin_ready (path_at w k) a (ready (known w) (call_at w k).arguments)) at ∙ ap (begin_ready (path_at w k) app) (sym is) in
+    subst (BeginsWith w k) (sym (same ∙ ap (λ (b : Bool). beginning_of app b r) roomy)) (begins_with w k app r begins_as)
 
 -- ---- callbacks
 
-pub no-callback : (w : Known) → IsFact w → NoCallback w → CallbackTurn w false w
-no-callback w fact none = (none, plain-join_done w fact.inv.holds fact.opens.plain, refl)
+-- what is refused for one act is refused for any that it may be
+pub refused-more : (P Q : Known → Type 0) → ((v : Known) → P v → Q v) → (r : Refusal) → IsRefusedFor P r → IsRefusedFor Q r
+refused-more P Q more NoMemory h = tt
+refused-more P Q more TaskLimit h = (h.0, more h.0 h.1, h.2)
+refused-more P Q more StoreLimit h = (h.0, more h.0 h.1, h.2)
 
-pub launches : (w v : Known) (k : ℕ) → IsCallback w k → IsAttempt w k → v ≡ launched w k → CarriesOut w v
-launches w v k is a after = begins k is (after ∙ sym (ap (carried_out w k) a.begins))
+pub begin-refused : (w : Known) (k : ℕ) (r : Refusal) → IsCallback w k → IsRefusedFor (λ v. v ≡ carried_out w k (begin_at w k)) r → IsRefusedFor (CarriesOut w) r
+begin-refused w k r is h = refused-more (λ v. v ≡ carried_out w k (begin_at w k)) (CarriesOut w) (λ v after. begins k is after) r h
 
-pub fails : (w v : Known) (k : ℕ) (exception : Exception) → IsCallback w k → begin_at w k ≡ Fails exception → v ≡ settled_as w k (o.Failed exception) → CarriesOut w v
-fails w v k exception is begin after = begins k is (after ∙ sym (ap (carried_out w k) begin))
+pub end-refused : (w : Known) (k : ℕ) (r : Refusal) → IsJoinDone w k → IsRefusedFor (JoinEnds w k) r → IsRefusedFor (CarriesOut w) r
+end-refused w k r is h = refused-more (JoinEnds w k) (CarriesOut w) (λ v after. ends k is (after is)) r h
+
+pub fails-so : (w v : Known) (k : ℕ) (exception : Exception) → begin_at w k ≡ Fails exception → v ≡ settled_as w k (o.Failed exception) → v ≡ carried_out w k (begin_at w k)
+fails-so w v k exception begin after = after ∙ sym (ap (carried_out w k) begin)
+
+pub launches-so : (w v : Known) (k : ℕ) → IsAttempt w k → v ≡ launched w k → v ≡ carried_out w k (begin_at w k)
+launches-so w v k a after = after ∙ sym (ap (carried_out w k) a.begins)
+
+-- ---- joins that are done
+
+pub done-is : (w : Known) (k : ℕ) (t : Task) (ended : Ended) (answer : Bool) → life_at w k ≡ life_of t → t.ran ≡ Some ended → t.record.status ≡ status.Joining
+    → IsTrue answer ↔ AllKnown (known w) (awaited (result_of ended)) → IsTrue answer ↔ IsJoinDone w k
+done-is w k t ended answer life ran joining answers =
+    let result : (life_at w k).ran ≡ Some (result_of ended) = ap (λ (l : Life). l.ran) life ∙ ap (option_map result_of) ran in (
+      (λ yes. record { joining = ap (λ (l : Life). l.status) life ∙ joining; result = result_of ended; ran = result; awaited = answers.0 yes }),
+      (λ done. answers.1 (let same : done.result ≡ result_of ended = same-some done.result (result_of ended) (sym done.ran ∙ result) in subst (λ r. AllKnown (known w) (awaited r)) same done.awaited)),
+    )
+
+-- a task whose body didn't run isn't one
+pub unran-not : (w : Known) (k : ℕ) (t : Task) → life_at w k ≡ life_of t → t.ran ≡ None → IsJoinDone w k → ⊥
+unran-not w k t life none done =
+    let absent : (life_at w k).ran ≡ None = ap (λ (l : Life). l.ran) life ∙ ap (option_map result_of) none in
+    let some = done.ran in
+    absurd (cc)
+
+-- nor is one in another state
+pub other-not : (w : Known) (k : ℕ) (t : Task) → life_at w k ≡ life_of t → t.record.status ≢ status.Joining → IsJoinDone w k → ⊥
+other-not w k t life other done = other (ap (λ (l : Life). l.status) (sym life) ∙ done.joining)
+
+pub none-done : (w : Known) (ts : List Task) (n : ℕ) → Shows w ts → length ts ≤ n → ((k : ℕ) → k < n → IsJoinDone w k → ⊥) → NoJoinDone w
+none-done w ts n s all none k is =
+    let within : k < length ts = begun-within w ts k s (λ e. let joining = is.joining in cc) in
+    none k (omega (arith, within, all)) is
+
+pub done-from : (w : Known) (j : ℕ) → ((k : ℕ) → k < j → IsJoinDone w k → ⊥) → (IsJoinDone w j → ⊥) → (k : ℕ) → k < j + 1 → IsJoinDone w k → ⊥
+done-from w j none next k below is =
+    elim (cases_lt k j) [
+      | inl before ↦ none k before is
+      | inr from ↦ next (let same : k ≡ j = omega (arith, below, from) in subst (IsJoinDone w) same is)
+    ]
 
 -- ---- jobs
 

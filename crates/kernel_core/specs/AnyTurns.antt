@@ -15,7 +15,7 @@ use Rattle.kernel_model.specs.Acts.{refused}
 use Rattle.kernel_model.specs.Known.{Known, has_ended, no_retries, path_at, settled_outcome, apps_in}
 use Rattle.kernel_model.specs.Evaluated.{evaluated}
 use Rattle.kernel_model.specs.Jobs.{JobView}
-use Rattle.kernel_model.specs.Turns.{IsEndOf, script_step, CallbackTurn, FetchTurn, DeliverTurn, SettleTurn, EndTurn, Settles}
+use Rattle.kernel_model.specs.Turns.{IsEndOf, script_step, CarriesOut, CallbackTurn, FetchTurn, DeliverTurn, SettleTurn, EndTurn, Settles}
 use Rattle.kernel_core.specs.declared.any_turns.Turn.{Turn}
 use Rattle.kernel_core.specs.declared.any_turns.Turn.TheVariants as turn
 use Rattle.kernel_core.specs.Refused.{IsRefused}
@@ -46,6 +46,7 @@ Does w turn.End v = (did : Bool) × EndTurn w did v
 -- a turn was refused, for what such a turn may be refused
 abbrev pub IsTurnRefused : Known → Turn → Known → Refusal → Type 0
 IsTurnRefused w turn.Script v refusal = IsRefused w v (λ u. u ≡ (script_step w).1) refusal
+IsTurnRefused w turn.Callback v refusal = IsRefused w v (CarriesOut w) refusal
 IsTurnRefused w turn.Settle v refusal = IsRefused w v (Settles w) refusal
 IsTurnRefused w _ v refusal = (refusal ≡ NoMemory) × (v ≡ refused w NoMemory)
 

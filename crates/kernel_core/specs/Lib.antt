@@ -1,5 +1,6 @@
 pub mod Tasks
 pub mod Jobs
+pub mod Joins
 pub mod Views
 pub mod Turned
 pub mod MainTurns

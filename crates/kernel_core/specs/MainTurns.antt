@@ -1,5 +1,5 @@
 -- What main's turns take, and what they do.
-use Rattle.std.specs.Prelude.{◌≡◌, ℕ, suc, ◌+◌, ◌<◌, ◌≤◌, [], ◌∷◌, length, Option, Some, None}
+use Rattle.std.specs.Prelude.{◌≡◌, ℕ, ◌+◌, ◌<◌, ◌≤◌, [], ◌∷◌, length, Option, Some, None}
 use Rattle.flow_base.specs.declared.value.Value.{Value, out-Value}
 use Rattle.flow_base.specs.declared.outcome.Ended.{Ended}
 use Rattle.flow_base.specs.declared.outcome.Ended.TheVariants as ended
@@ -60,13 +60,14 @@ pub record AddsCall (w : Known) (c : Call) (path : Path) (units : ℕ) : Type 0 
 
 -- ---- by number
 
--- the value is a future or an output of main's call of this number
-abbrev pub IsOfCall : Value → ℕ → Type 0
-IsOfCall value k = path_in (out-Value value) ≡ (suc k ∷ []) ∷ []
+-- the value is a future or an output of the task of this number
+pub record IsOfCall (w : Known) (value : Value) (k : ℕ) : Type 0 where
+  pub path : path_in (out-Value value) ≡ path_at w k ∷ []
+  pub within : k < length w.calls
 
--- of no such call
-abbrev pub IsOfNoCall : Value → Type 0
-IsOfNoCall value = (k : ℕ) → IsOfCall value k → ⊥
+-- of no task
+abbrev pub IsOfNoCall : Known → Value → Type 0
+IsOfNoCall w value = (k : ℕ) → IsOfCall w value k → ⊥
 
 -- a request that waits for this call
 pub record IsWaitOf (w : Known) (wanted : Request) (k : ℕ) : Type 0 where

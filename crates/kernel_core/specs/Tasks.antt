@@ -1,13 +1,16 @@
 -- What the records of tasks and of main's steps mean.
-use Rattle.std.specs.Prelude.{◌≡◌, ◌≢◌, ℕ, suc, ◌+◌, ◌<◌, List, [], ◌∷◌, ◌++◌, length, None, Some, IsSome, slice_get}
+use Rattle.std.specs.Prelude.{◌≡◌, ◌≢◌, ℕ, ◌+◌, ◌<◌, List, [], ◌∷◌, length, map, Option, Some, IsSome, option_map, slice_get}
 use Rattle.std.proofs.Common.{get_or}
 use Rattle.flow_meaning.specs.declared.walk.Answer.{Answer}
 use Rattle.flow_meaning.specs.declared.walk.Answer.TheVariants as answer
-use Rattle.flow_meaning.specs.Sequential.{Tasks, MainAct, Calls, Waits, Prints, Checkpoints, outcome_answer}
+use Rattle.flow_meaning.specs.Inputs.{Path}
+use Rattle.flow_meaning.specs.Sequential.{Task as TaskOf, Tasks, MainAct, Calls, Waits, Prints, Checkpoints, outcome_answer}
 use Rattle.task_record.specs.declared.status.Status.{Status}
 use Rattle.task_record.specs.declared.status.Status.TheVariants as status
-use Rattle.call_rules.specs.Calls.{Call}
-use Rattle.kernel_model.specs.Known.{Life, no_call, no_life, outcome_in, tasks_where}
+use Rattle.dependency_graph.specs.Places.{settled_by}
+use Rattle.call_rules.specs.Calls.{Call, task_of}
+use Rattle.join_apps.specs.Bodies.{result_of}
+use Rattle.kernel_model.specs.Known.{Life, no_call, no_life, outcome_in}
 use Rattle.kernel_model.specs.Acts.{future_of}
 use Rattle.kernel_core.specs.declared.task.Task.{Task}
 use Rattle.kernel_core.specs.declared.run_state.MainStep.{MainStep}
@@ -16,17 +19,16 @@ use Rattle.kernel_core.specs.declared.run_state.MainStep.TheVariants as step
 abbrev pub call_of : Task → Call
 call_of t = record { path = t.record.path; app = t.record.app; arguments = t.record.arguments; names = t.record.names }
 
--- a task here is no join, so no body of its own ran
 abbrev pub life_of : Task → Life
-life_of t = record { status = t.record.status; attempts = t.record.attempts; cost = t.record.cost; end = t.end; ran = None }
+life_of t = record { status = t.record.status; attempts = t.record.attempts; cost = t.record.cost; end = t.end; ran = option_map result_of t.ran }
 
--- the settled ones with their outcomes, each with the path of its place
-abbrev pub numbered_from : ℕ → List Task → Tasks
-numbered_from k [] = []
-numbered_from k (t ∷ ts) = tasks_where (record (call_of t) { path = suc k ∷ [] }) (outcome_in (life_of t)) ++ numbered_from (suc k) ts
+-- the task with its outcome, once it is settled
+abbrev pub settled_task : Task → Option TaskOf
+settled_task t = option_map (task_of (call_of t)) (outcome_in (life_of t))
 
-abbrev pub numbered_tasks : List Task → Tasks
-numbered_tasks = numbered_from 0
+-- the settled ones with their outcomes, each with the path that stands at its place
+abbrev pub tasks_by : List Path → List Task → Tasks
+tasks_by paths ts = settled_by paths (map settled_task ts)
 
 -- the task of this number is in this state
 pub record IsIn (ts : List Task) (s : Status) (k : ℕ) : Type 0 where

@@ -1,15 +1,16 @@
 -- What the fields of a run's state mean, and how a run begins.
-use Rattle.std.specs.Prelude.{◌≡◌, ◌<◌, ◌^◌, ℕ, Bool, List, Option, None, length, map, flat_map, reverse}
+use Rattle.std.specs.Prelude.{◌≡◌, ◌<◌, ◌≤◌, ◌^◌, ℕ, Bool, List, Option, None, length, map, flat_map, reverse}
 use Rattle.flow_base.specs.declared.outcome.Ending.{Ending}
 use Rattle.script_tree.specs.Grammar.{Tree}
 use Rattle.event_log.specs.declared.entry.Entry.{Entry}
 use Rattle.dependency_graph.specs.declared.monitor.Settlement.{Settlement}
-use Rattle.call_rules.specs.PlainScripts.{NoJoins}
+use Rattle.flow_meaning.specs.Inputs.{Path}
 use Rattle.kernel_model.specs.declared.answers.Refusal.{Refusal}
+use Rattle.call_rules.specs.Calls.{Call}
+use Rattle.history_laws.specs.Reads.{submits}
 use Rattle.kernel_model.specs.Known.{Known}
 use Rattle.kernel_model.specs.Invariants.{Inv}
 use Rattle.kernel_model.specs.Limits.{stored, passed}
-use Rattle.kernel_model.specs.PlainScripts.{CallsAreNumbered}
 use Rattle.kernel_core.specs.declared.task.Task.{Task}
 use Rattle.kernel_core.specs.declared.run_state.MainStep.{MainStep}
 use Rattle.kernel_core.specs.Tasks.{call_of, life_of, answer_of, acts_of, AreOver, running_in}
@@ -28,16 +29,11 @@ known_with tree tasks steps arrived ending log refusal told = record {
   told = told;
 }
 
--- a script that a run may begin with: it has no join apps, and fewer than 2^32 apps
-pub record Opens (tree : Tree) : Type 0 where
-  pub plain : NoJoins tree
-  pub few_apps : length tree.0 < 2 ^ 32
-
 -- what holds of every run
 pub record IsFact (w : Known) : Type 0 where
   pub inv : Inv w
-  pub opens : Opens w.tree
-  pub numbered : CallsAreNumbered w
+  -- each app has a number of 32 bits
+  pub few_apps : length w.tree.0 < 2 ^ 32
   -- it is within the limits
   pub within : passed w ≡ None
 
@@ -47,3 +43,9 @@ pub record IsSound (w : Known) (tasks : List Task) (steps : List MainStep) (atte
   pub over : AreOver (map call_of tasks) (map life_of tasks) steps
   pub running : attempts ≡ running_in (map life_of tasks)
   pub units_are : units ≡ stored w
+
+-- the table of paths and the number of main's calls are right
+pub record IsIndexed (w : Known) (places : List Path) (mains : ℕ) : Type 0 where
+  pub placed : places ≡ map (λ (c : Call). c.path) w.calls
+  pub mains_are : mains ≡ submits w.past
+  pub few : mains ≤ length w.calls

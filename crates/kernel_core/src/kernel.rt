@@ -1,11 +1,10 @@
 //! The kernel of a run: its state, and main's walk.
 
-ghost use Rattle.std.specs.Prelude.{◌≡◌, map, IfOk};
+ghost use Rattle.std.specs.Prelude.{◌≡◌, ◌<◌, ◌^◌, length, map, IfOk};
 ghost use Rattle.std.specs.Arc.{arc_value};
 ghost use Rattle.history_laws.specs.Reads.{history_of};
 ghost use Rattle.kernel_model.specs.Known.{has_ended};
 ghost use Rattle.kernel_model.specs.Acts.{started_with};
-ghost use Rattle.kernel_core.specs.Views.{Opens};
 
 use crate::main_walk::MainWalk;
 use crate::run_state::RunState;
@@ -54,9 +53,9 @@ impl<M: Monitor> Model for Kernel<M> {
 }
 
 impl<M: Monitor> Kernel<M> {
-    /// The kernel of a script without join apps, before any turn.
+    /// The kernel of a script before any turn.
     pub fn new(alloc: Global, opening: Opening, monitors: Vec<M>) -> Result<Kernel<M>, AllocError>
-        requires { Opens (arc_value opening.script).tree }
+        requires { length (arc_value opening.script).tree.0 < 2 ^ 32 }
         ensures { IfOk result (λ kernel. kernel ≡ started_with (arc_value opening.script).tree (map M.told monitors.items)) }
     {
         let Opening { script } = opening;

@@ -2,7 +2,6 @@
 
 ghost use Rattle.std.specs.Prelude.{◌≡◌, []};
 
-use crate::copies::copy_outcome;
 use dependency_graph::{Monitor, Settlement};
 use sqlite_items::Items as ListOf;
 use std::alloc::{AllocError, Global};
@@ -40,7 +39,7 @@ impl Monitor for Ledger {
         let settlement = Settlement {
             path: settlement.path.copy(self.alloc)?,
             status: settlement.status,
-            outcome: copy_outcome(self.alloc, &settlement.outcome)?,
+            outcome: settlement.outcome.copy(self.alloc)?,
         };
         self.settlements.push(settlement)
     }

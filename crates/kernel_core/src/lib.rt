@@ -2,8 +2,9 @@
 #![tactic(auto)]
 
 mod any_turns;
-mod copies;
+mod beginning;
 mod job;
+mod joins;
 mod kernel;
 mod ledger;
 mod main_acts;

@@ -45,7 +45,7 @@ impl<M: Monitor> RunState<M> {
         if units > MAX_STORED - self.stored {
             return Err(Refusal::StoreLimit);
         }
-        let path = Path::new(self.alloc).child(self.alloc, self.tasks.len() as u32 + 1)?;
+        let path = Path::new(self.alloc).child(self.alloc, self.mains + 1)?;
         let future = Value::Future {
             path: path.copy(self.alloc)?,
             outputs: names.len() as u32,
@@ -74,9 +74,15 @@ impl<M: Monitor> RunState<M> {
         self.tasks.reserve(1)?;
         self.steps.reserve(1)?;
         self.log.reserve(self.running + 1)?;
+        self.places.add(self.alloc, &path)?;
         let mut record = TaskRecord::new(path, app, arguments, names);
         record.pending();
-        self.tasks.push_reserved(Task { record, end: None });
+        self.tasks.push_reserved(Task {
+            record,
+            end: None,
+            ran: None,
+        });
+        self.mains += 1;
         self.steps.push_reserved(MainStep::Call(k));
         self.stored += units;
         self.arrived = false;

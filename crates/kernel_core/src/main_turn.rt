@@ -9,9 +9,7 @@ ghost use Rattle.kernel_model.specs.Turns.{script_step, request_step};
 ghost use Rattle.kernel_core.specs.MainTurns.{IsOfCall, IsOfNoCall, IsWaitOf, ending_in};
 ghost use Rattle.kernel_core.specs.MainWalks.{IsTaken, Stands};
 
-use crate::copies::copy_outcome;
 use crate::main_walk::MainWalk;
-use crate::reading::call_number;
 use crate::run_state::RunState;
 use app_eval::Want;
 use dependency_graph::Monitor;
@@ -70,11 +68,11 @@ fn answer<M: Monitor>(
         } => call(state, main, app, arguments, names),
         Request::Print(value) => print(state, main, value),
         Request::Checkpoint => checkpoint(state, main),
-        Request::WaitValue(future) => match awaited(&future) {
+        Request::WaitValue(future) => match awaited(state, &future) {
             Some(k) => wait(state, main, k, Request::WaitValue(future)),
             None => unreachable!(),
         },
-        Request::WaitName(future) => match awaited(&future) {
+        Request::WaitName(future) => match awaited(state, &future) {
             Some(k) => wait(state, main, k, Request::WaitName(future)),
             None => unreachable!(),
         },
@@ -157,7 +155,7 @@ fn wait<M: Monitor>(
     let Some(outcome) = state.outcome(k) else {
         return stay(state, main, k, request);
     };
-    let outcome = copy_outcome(alloc, outcome)?;
+    let outcome = outcome.copy(alloc)?;
     state.wait(k)?;
     main.tell(Answer::Outcome(outcome));
     Ok(ScriptTurn::Advanced)
@@ -190,13 +188,13 @@ fn stay<M: Monitor>(
     }
 }
 
-// The number of the call of main that a future or an output is of.
-fn awaited(value: &Value) -> Option<usize>
-    ensures { MatchOption result (IsOfNoCall value.now) (IsOfCall value.now) }
+// The number of the task that a future or an output is of.
+fn awaited<M: Monitor>(state: &RunState<M>, value: &Value) -> Option<usize>
+    ensures { MatchOption result (IsOfNoCall state.now value.now) (IsOfCall state.now value.now) }
 {
     match value {
-        Value::Future { path, .. } => call_number(path),
-        Value::Output { path, .. } => call_number(path),
+        Value::Future { path, .. } => state.place(path),
+        Value::Output { path, .. } => state.place(path),
         _ => None,
     }
 }

@@ -3,7 +3,9 @@
 ghost use Rattle.std.specs.Prelude.{◌≡◌, map, IfOk};
 ghost use Rattle.history_laws.specs.Reads.{history_of};
 ghost use Rattle.kernel_model.specs.Evaluated.{evaluated, ending_or as the_ending};
-ghost use Rattle.kernel_core.specs.Parts.{parts_of, end_of as the_end, ends_in, printed_in};
+ghost use Rattle.dependency_graph.specs.Places.{AreDistinct};
+ghost use Rattle.kernel_core.specs.Joins.{task_paths};
+ghost use Rattle.kernel_core.specs.Parts.{parts_of, end_of as the_end, ends_in, ends_paths, ordered, printed_in};
 
 use crate::kernel::Kernel;
 use crate::main_acts::app_name;
@@ -49,6 +51,7 @@ impl<M: Monitor> RunState<M> {
     }
 }
 
+// The tasks have distinct paths.
 fn evaluation_of(
     alloc: Global,
     apps: &[AppDef],
@@ -56,6 +59,7 @@ fn evaluation_of(
     steps: Vec<MainStep>,
     ending: Option<Ending>,
 ) -> Result<Evaluation, AllocError>
+    requires { AreDistinct (task_paths tasks.items) }
     ensures { IfOk result (λ evaluation. evaluation ≡ parts_of apps.now tasks.items steps.items ending) }
 {
     Ok(Evaluation {
@@ -77,10 +81,23 @@ fn printed_values(alloc: Global, steps: Vec<MainStep>) -> Result<Items, AllocErr
     Ok(values)
 }
 
+// The settled tasks in the order of their paths.
 fn task_ends(alloc: Global, apps: &[AppDef], tasks: Vec<Task>) -> Result<TaskEnds, AllocError>
-    ensures { IfOk result (λ ends. ends ≡ ends_in apps.now tasks.items) }
+    requires { AreDistinct (task_paths tasks.items) }
+    ensures { IfOk result (λ ends. ends ≡ ordered (ends_in apps.now tasks.items)) }
 {
-    let mut ends = TaskEnds::new(alloc);
+    let ends = settled_ends(alloc, apps, tasks)?;
+    Ok(TaskEnds::from_vec(sorted_by_path(ends)))
+}
+
+fn settled_ends(
+    alloc: Global,
+    apps: &[AppDef],
+    tasks: Vec<Task>,
+) -> Result<Vec<TaskEnd>, AllocError>
+    ensures { IfOk result (λ ends. ends.items ≡ ends_in apps.now tasks.items) }
+{
+    let mut ends = Vec::new(alloc);
     for task in tasks {
         if let Some(end) = end_of(alloc, apps, task)? {
             ends.push(end)?;
@@ -89,11 +106,19 @@ fn task_ends(alloc: Global, apps: &[AppDef], tasks: Vec<Task>) -> Result<TaskEnd
     Ok(ends)
 }
 
+fn sorted_by_path(mut ends: Vec<TaskEnd>) -> Vec<TaskEnd>
+    requires { AreDistinct (ends_paths ends.items) }
+    ensures { result.items ≡ ordered ends.items }
+{
+    ends.sort_unstable_by(|one, other| one.path.as_slice().cmp(other.path.as_slice()));
+    ends
+}
+
 /// The task with its outcome, if it is settled.
 fn end_of(alloc: Global, apps: &[AppDef], task: Task) -> Result<Option<TaskEnd>, AllocError>
     ensures { IfOk result (λ end. end ≡ the_end apps.now task) }
 {
-    let Task { record, end } = task;
+    let Task { record, end, .. } = task;
     if !record.status().is_settled() {
         return Ok(None);
     }

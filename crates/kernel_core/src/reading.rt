@@ -1,37 +1,29 @@
 //! What is read from the tasks of a kernel.
 
-ghost use Rattle.std.specs.Prelude.{◌≡◌, ◌≢◌, ℕ, suc, [], ◌∷◌, ◌↔◌, MatchOption, IsTrue};
+ghost use Rattle.std.specs.Prelude.{◌≡◌, ◌↔◌, MatchOption, IsTrue};
 ghost use Rattle.std.specs.List.{list_all};
 ghost use Rattle.task_record.specs.States.{is_settled};
-ghost use Rattle.kernel_core.specs.Tasks.{NoneIn, IsIn, numbered_tasks};
+ghost use Rattle.kernel_core.specs.Tasks.{NoneIn, IsIn, tasks_by};
 
 use crate::task::Task;
-use dependency_graph::Outcomes;
-use flow_base::{Names, Outcome, Path, Text};
+use dependency_graph::{Outcomes, PathTable};
+use flow_base::{Outcome, Path, Text};
 use task_record::Status;
 
 /// The tasks of a kernel, with the outcomes of those that are settled.
 #[derive(Drop)]
 pub struct Settled<'a> {
     pub tasks: &'a [Task],
+    /// Their paths.
+    pub places: &'a PathTable,
 }
 
 impl Outcomes for Settled<'_> {
-    ghost tasks = { λ s. numbered_tasks s.tasks.now };
+    ghost tasks = { λ s. tasks_by s.places.now s.tasks.now };
 
     fn outcome(&self, path: &Path) -> Option<&Outcome> {
-        let k = call_number(path)?;
+        let k = self.places.place(path)?;
         self.tasks.get(k)?.outcome()
-    }
-}
-
-/// The number of the call of main that has this path, from 0.
-pub fn call_number(path: &Path) -> Option<usize>
-    ensures { MatchOption result ((k : ℕ) → path.now ≢ suc k ∷ []) (λ k. path.now ≡ suc k ∷ []) }
-{
-    match path.as_slice() {
-        [number] if *number > 0 => Some(*number as usize - 1),
-        _ => None,
     }
 }
 

@@ -1,17 +1,19 @@
 //! The state of a run: its tasks, what main did, and the history.
 
-ghost use Rattle.std.specs.Prelude.{◌≡◌, ◌<◌, ◌^◌, [], ◌∷◌, length, None, map, reverse, is_some, IfOk};
+ghost use Rattle.std.specs.Prelude.{◌≡◌, ◌<◌, ◌^◌, [], ◌∷◌, length, None, map, reverse, is_some, MatchOption};
 ghost use Rattle.std.specs.Option.{option_copied};
 ghost use Rattle.std.specs.Arc.{arc_value};
 ghost use Rattle.history_laws.specs.Reads.{history_of, has_end};
-ghost use Rattle.kernel_model.specs.Known.{has_ended, path_at, settled_outcome};
+ghost use Rattle.kernel_model.specs.Known.{has_ended, known, path_at, settled_outcome};
 ghost use Rattle.kernel_model.specs.Acts.{started_with, refused};
 ghost use Rattle.kernel_model.specs.Work.{HasRoom};
-ghost use Rattle.kernel_core.specs.Views.{Opens, IsFact};
+ghost use Rattle.kernel_core.specs.Tasks.{tasks_by};
+ghost use Rattle.kernel_core.specs.Turned.{IsNowhere, IsPlaceOf};
+ghost use Rattle.kernel_core.specs.Views.{IsFact};
 
 use crate::reading::Settled;
 use crate::task::Task;
-use dependency_graph::Monitor;
+use dependency_graph::{Monitor, PathTable};
 use event_log::Entry;
 use flow_base::{Ending, Outcome, Path, Value};
 use kernel_model::Refusal;
@@ -40,6 +42,10 @@ pub struct RunState<M: Monitor> {
     pub(crate) alloc: Global,
     pub(crate) script: Arc<Checked>,
     pub(crate) tasks: Vec<Task>,
+    // The paths of the tasks.
+    pub(crate) places: PathTable,
+    // How many calls are main's own.
+    pub(crate) mains: u32,
     // How many attempts run: the log has room for their ends.
     pub(crate) running: usize,
     pub(crate) steps: Vec<MainStep>,
@@ -62,7 +68,7 @@ impl<M: Monitor> Model for RunState<M> {
     ghost use Rattle.script_tree.specs.contracts.tree.Expr as expr;
     ghost use Rattle.script_tree.specs.contracts.tree.CallExpr as call;
     ghost use Rattle.kernel_model.specs.Known.{Known};
-    ghost use Rattle.kernel_core.specs.Views.{known_with, IsSound};
+    ghost use Rattle.kernel_core.specs.Views.{known_with, IsSound, IsIndexed};
 
     ghost Value = { Known };
 
@@ -72,19 +78,22 @@ impl<M: Monitor> Model for RunState<M> {
 
     ghost invariant = { λ s.
         IsSound (known_with (arc_value s.script).tree s.tasks.items s.steps.items s.arrived s.ending s.log.items s.refusal (map M.told s.monitors.items)) s.tasks.items s.steps.items s.running s.stored
+        × IsIndexed (known_with (arc_value s.script).tree s.tasks.items s.steps.items s.arrived s.ending s.log.items s.refusal (map M.told s.monitors.items)) s.places s.mains
         × (vec_len s.log + s.running ≤ vec_capacity s.log) };
 }
 
 impl<M: Monitor> RunState<M> {
     /// The state of a run before any turn.
     pub fn new(alloc: Global, script: Arc<Checked>, monitors: Vec<M>) -> RunState<M>
-        requires { Opens (arc_value script).tree }
+        requires { length (arc_value script).tree.0 < 2 ^ 32 }
         ensures { result ≡ started_with (arc_value script).tree (map M.told monitors.items) }
     {
         RunState {
             alloc,
             script,
             tasks: Vec::new(alloc),
+            places: PathTable::new(alloc),
+            mains: 0,
             running: 0,
             steps: Vec::new(alloc),
             arrived: false,
@@ -139,6 +148,23 @@ impl<M: Monitor> RunState<M> {
         ensures { option_copied result ≡ settled_outcome self.now k }
     {
         self.tasks[k].outcome()
+    }
+
+    /// The number of the task of this path.
+    pub fn place(&self, path: &Path) -> Option<usize>
+        ensures { MatchOption result (IsNowhere self.now path.now) (IsPlaceOf self.now path.now) }
+    {
+        self.places.place(path)
+    }
+
+    /// Its tasks, with the outcomes of those that are settled.
+    pub fn settled(&self) -> Settled<'_>
+        ensures { tasks_by result.places.now result.tasks.now ≡ known self.now }
+    {
+        Settled {
+            tasks: self.tasks.as_slice(),
+            places: &self.places,
+        }
     }
 
     /// The path of the task of this number.

@@ -1,4 +1,4 @@
-//! A task of main.
+//! A task of a run.
 
 ghost use Rattle.std.specs.Prelude.{◌≡◌};
 ghost use Rattle.std.specs.Option.{option_copied};
@@ -7,14 +7,15 @@ ghost use Rattle.history_laws.specs.Tables.{status_of as state_of};
 ghost use Rattle.kernel_model.specs.Known.{outcome_in};
 ghost use Rattle.kernel_core.specs.Tasks.{life_of};
 
-use flow_base::{Exception, Outcome};
+use flow_base::{Ended, Exception, Outcome};
 use task_record::{Status, TaskRecord};
 
-/// The record of a task, and how its last attempt, or the task itself, ended.
+/// The record of a task, how its last attempt, or the task itself, ended, and how the body of a join ended.
 #[derive(Drop)]
 pub struct Task {
     pub record: TaskRecord,
     pub end: Option<Outcome>,
+    pub ran: Option<Ended>,
 }
 
 impl Task {

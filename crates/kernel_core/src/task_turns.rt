@@ -1,42 +1,60 @@
 //! The turns of tasks: which one is next, and the act that it needs.
 
-ghost use Rattle.std.specs.Prelude.{◌≡◌, ◌↔◌, ◌<◌, length, suc, [], ◌∷◌, IsTrue, false, IfOk, IfErr, IfSome, OnErr, MatchOption};
-ghost use Rattle.std.specs.Option.{option_copied};
+ghost use Rattle.std.specs.Prelude.{◌≡◌, ◌↔◌, ◌<◌, length, IsTrue, false, IfOk, IfErr, IfSome, OnOk, OnErr, MatchOption};
 ghost use Rattle.flow_meaning.specs.Sequential.{outcome_of as the_outcome};
 ghost use Rattle.task_record.specs.declared.status.Status.TheVariants as status;
-ghost use Rattle.kernel_model.specs.Known.{has_ended, status_at, apps_in, IsDone};
+ghost use Rattle.kernel_model.specs.Known.{has_ended, path_at, status_at, begin_at, apps_in, IsDone};
 ghost use Rattle.kernel_model.specs.Limits.{IsRefusedFor};
-ghost use Rattle.kernel_model.specs.Turns.{IsCallback, CallbackTurn, FetchTurn, DeliverTurn, SettleTurn, EndTurn, Settles, IsRunning, IsEndOf, job_of};
+ghost use Rattle.kernel_model.specs.Turns.{IsCallback, IsJoinDone, CarriesOut, carried_out, CallbackTurn, FetchTurn, DeliverTurn, SettleTurn, EndTurn, Settles, IsRunning, IsEndOf, job_of};
 ghost use Rattle.kernel_core.specs.Jobs.{FitsApps};
-ghost use Rattle.kernel_core.specs.Turned.{NoCallback, NoJob, AllSettled, BeginsWith, beginning_of};
+ghost use Rattle.kernel_core.specs.Turned.{NoCallback, NoJoinDone, NoJob, AllSettled, BeginsWith};
 
-use crate::copies::copy_names;
+use crate::beginning::Beginning;
 use crate::job::{Done, Job};
-use crate::reading::{Settled, are_settled, call_number, first_in, same_names};
+use crate::reading::{are_settled, first_in, same_names};
 use crate::run_state::RunState;
-use dependency_graph::{Monitor, Readiness, is_resolved, is_settled_all, readiness_of, resolve};
-use flow_base::{Ended, Exception, Outcome};
+use dependency_graph::{Monitor, is_resolved, is_settled_all, readiness_of, resolve};
+use flow_base::{Ended, MAX_PATH, Outcome, copy_names};
+use join_apps::awaits_nothing;
 use kernel_model::{Delivered, Refusal};
-use script_tree::tree::AppDef;
 use std::alloc::AllocError;
 use task_record::Status;
 
 impl<M: Monitor> RunState<M> {
-    /// Carries out the callback of a task whose inputs are all settled. False exactly where none is ready.
-    pub fn carry_out(&mut self) -> Result<bool, AllocError>
+    /// Carries out a callback: that of a task whose inputs are all settled, or of a join whose body ran and
+    /// that waits for nothing any more. False exactly where none is ready.
+    pub fn carry_out(&mut self) -> Result<bool, Refusal>
         requires { has_ended self.old ≡ false }
         ensures turn { IfOk result (λ did. CallbackTurn self.old did self.new) }
         ensures err { OnErr result (self.new ≡ self.old) }
+        ensures refused { IfErr result (IsRefusedFor (CarriesOut self.old)) }
     {
         self.facts();
-        let Some(k) = self.next_callback() else {
+        if let Some(k) = self.next_callback() {
+            self.begin(k)?;
+            return Ok(true);
+        }
+        let Some(k) = self.next_join_done() else {
             return Ok(false);
         };
-        match self.beginning(k)? {
-            Some(exception) => self.fail(k, exception)?,
-            None => self.launch(k)?,
-        }
+        self.end_join(k)?;
         Ok(true)
+    }
+
+    // A task whose inputs are all settled fails at once, is launched, or its body runs.
+    fn begin(&mut self, k: usize) -> Result<(), Refusal>
+        requires going { has_ended self.old ≡ false }
+        requires callback { IsCallback self.old k }
+        ensures ok { OnOk result (self.new ≡ carried_out self.old k (begin_at self.old k)) }
+        ensures err { OnErr result (self.new ≡ self.old) }
+        ensures refused { IfErr result (IsRefusedFor (λ v. v ≡ carried_out self.old k (begin_at self.old k))) }
+    {
+        match self.beginning(k)? {
+            Beginning::Fails(exception) => self.fail(k, exception)?,
+            Beginning::Attempts => self.launch(k)?,
+            Beginning::Joins(values) => self.run_join(k, values)?,
+        }
+        Ok(())
     }
 
     fn next_callback(&self) -> Option<usize>
@@ -50,33 +68,50 @@ impl<M: Monitor> RunState<M> {
         None
     }
 
+    fn next_join_done(&self) -> Option<usize>
+        ensures { MatchOption result (NoJoinDone self.now) (IsJoinDone self.now) }
+    {
+        for k in 0..self.tasks.len() {
+            if self.is_join_done(k) {
+                return Some(k);
+            }
+        }
+        None
+    }
+
+    fn is_join_done(&self, k: usize) -> bool
+        requires { k < length self.now.calls }
+        ensures { IsTrue result ↔ IsJoinDone self.now k }
+    {
+        let task = &self.tasks[k];
+        match &task.ran {
+            Some(ended) if task.record.status() == Status::Joining => {
+                awaits_nothing(&self.settled(), ended)
+            }
+            _ => false,
+        }
+    }
+
     fn is_callback(&self, k: usize) -> bool
         requires { k < length self.now.calls }
         ensures { IsTrue result ↔ IsCallback self.now k }
     {
         let record = &self.tasks[k].record;
-        let settled = Settled {
-            tasks: self.tasks.as_slice(),
-        };
         record.status() == Status::Pending
-            && is_settled_all(&settled, record.arguments().as_slice())
+            && is_settled_all(&self.settled(), record.arguments().as_slice())
     }
 
-    // The exception that settles a task at once, by one of the first three rules of a call or as its app
-    // is missing. None where an attempt is launched.
-    fn beginning(&self, k: usize) -> Result<Option<Exception>, AllocError>
+    // How a task begins whose inputs are all settled.
+    fn beginning(&self, k: usize) -> Result<Beginning, AllocError>
         requires { IsCallback self.now k }
         ensures { IfOk result (BeginsWith self.now k) }
     {
         let record = &self.tasks[k].record;
-        let settled = Settled {
-            tasks: self.tasks.as_slice(),
-        };
-        let readiness = readiness_of(self.alloc, &settled, record.arguments().as_slice())?;
-        Ok(beginning_with(
-            self.script.script().apps().get(record.app() as usize),
-            readiness,
-        ))
+        let arguments = record.arguments().as_slice();
+        let readiness = readiness_of(self.alloc, &self.settled(), arguments)?;
+        let app = self.script.script().apps().get(record.app() as usize);
+        let room = record.path().len() < MAX_PATH;
+        Ok(Beginning::of(app, room, readiness))
     }
 
     /// Starts a launched attempt, and gives its job. None exactly where no attempt waits.
@@ -100,15 +135,12 @@ impl<M: Monitor> RunState<M> {
     {
         let alloc = self.alloc;
         let record = &self.tasks[k].record;
-        let settled = Settled {
-            tasks: self.tasks.as_slice(),
-        };
         Ok(Job {
             path: record.path().copy(alloc)?,
             attempt: record.attempts(),
             manager: 1,
             app: record.app(),
-            arguments: resolve(alloc, &settled, record.arguments().as_slice())?,
+            arguments: resolve(alloc, &self.settled(), record.arguments().as_slice())?,
             names: copy_names(alloc, record.names().as_slice())?,
         })
     }
@@ -133,31 +165,24 @@ impl<M: Monitor> RunState<M> {
     fn running_as(&self, job: &Job) -> Option<usize>
         ensures { MatchOption result (NoJob self.now job.now) (IsRunning self.now job.now) }
     {
-        let count = self.tasks.len();
-        let k = call_number(&job.path)?;
-        if k < count && self.is_job(k, job) {
-            Some(k)
-        } else {
-            None
-        }
+        self.facts();
+        let k = self.place(&job.path)?;
+        if self.is_job(k, job) { Some(k) } else { None }
     }
 
     fn is_job(&self, k: usize, job: &Job) -> bool
         requires within { k < length self.now.calls }
-        requires path { job.now.path ≡ suc k ∷ [] }
+        requires path { job.now.path ≡ path_at self.now k }
         ensures { IsTrue result ↔ IsRunning self.now job.now k }
     {
         let record = &self.tasks[k].record;
-        let settled = Settled {
-            tasks: self.tasks.as_slice(),
-        };
         record.status() == Status::Running
             && record.attempts() == job.attempt
             && job.manager == 1
             && record.app() == job.app
             && same_names(record.names().as_slice(), job.names.as_slice())
             && is_resolved(
-                &settled,
+                &self.settled(),
                 record.arguments().as_slice(),
                 job.arguments.as_slice(),
             )
@@ -200,19 +225,6 @@ impl<M: Monitor> RunState<M> {
         ensures { IsTrue result ↔ AllSettled self.now }
     {
         are_settled(self.tasks.as_slice())
-    }
-}
-
-// The exception that settles a task of this app at once, by what the first three rules say of it.
-fn beginning_with(app: Option<&AppDef>, readiness: Readiness) -> Option<Exception>
-    ensures { result ≡ beginning_of (option_copied app.entry) readiness }
-{
-    match readiness {
-        Readiness::Settles(exception) => Some(exception),
-        Readiness::Runs(_) => match app {
-            Some(_) => None,
-            None => Some(Exception::TypeError),
-        },
     }
 }
 

@@ -5,7 +5,7 @@ ghost use Rattle.kernel_model.specs.declared.answers.Refusal.TheVariants.{NoMemo
 ghost use Rattle.kernel_model.specs.Known.{has_ended, apps_in};
 ghost use Rattle.kernel_model.specs.Acts.{refused};
 ghost use Rattle.kernel_model.specs.Limits.{IsRefusedFor};
-ghost use Rattle.kernel_model.specs.Turns.{script_step, CallbackTurn, FetchTurn, DeliverTurn, SettleTurn, EndTurn, Settles, IsEndOf};
+ghost use Rattle.kernel_model.specs.Turns.{script_step, CarriesOut, CallbackTurn, FetchTurn, DeliverTurn, SettleTurn, EndTurn, Settles, IsEndOf};
 ghost use Rattle.kernel_core.specs.Jobs.{FitsApps};
 ghost use Rattle.kernel_core.specs.Refused.{IsRefused};
 
@@ -35,17 +35,22 @@ impl<M: Monitor> Kernel<M> {
         }
     }
 
-    /// Carries out the callback of a task whose inputs are all settled: it is launched, or settled by
-    /// one of the first three rules of a call. False exactly where no callback is ready. Only want of
-    /// memory refuses it.
+    /// Carries out a callback. A task whose inputs are all settled is launched, or settled by one of the
+    /// first three rules of a call or for the length of its path, or the body of its join runs, and the calls
+    /// of that are submitted. A join that waits for nothing any more is settled by the rule of joins. False
+    /// exactly where no callback is ready. It is refused where the calls would be too many, or where calls
+    /// or a value would pass the stored units.
     pub fn callback_turn(&mut self) -> Result<bool, Refusal>
         requires { has_ended self.old ≡ false }
         ensures turn { IfOk result (λ did. CallbackTurn self.old did self.new) }
-        ensures refused { IfErr result (λ refusal. (refusal ≡ NoMemory) × (self.new ≡ refused self.old NoMemory)) }
+        ensures refused { IfErr result (IsRefused self.old self.new (CarriesOut self.old)) }
     {
         match self.state.carry_out() {
             Ok(did) => Ok(did),
-            Err(_) => Err(self.refuse_memory()),
+            Err(refusal) => {
+                self.state.refuse(refusal);
+                Err(refusal)
+            }
         }
     }
 

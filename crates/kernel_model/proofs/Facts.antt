@@ -44,6 +44,23 @@ end_newest z (entry.Launch p n ∷ b) law h = absurd (let open_yet = law.0.open_
 end_newest z (entry.Start p n manager ∷ b) law h = absurd (let open_yet = law.0.open_yet in cc)
 end_newest z (entry.Ended p n manager kind ∷ b) law h = absurd (let open_yet = law.0.open_yet in cc)
 end_newest z (entry.Settled p s ∷ b) law h = absurd (let open_yet = law.0.open_yet in cc)
+end_newest z (entry.MemoHit q ∷ b) law h = absurd (let open_yet = law.0.open_yet in cc)
+end_newest z (entry.Dispatch q n manager ∷ b) law h = absurd (let open_yet = law.0.open_yet in cc)
+end_newest z (entry.Held q n manager ∷ b) law h = absurd (let open_yet = law.0.open_yet in cc)
+end_newest z (entry.LostTry q n manager ∷ b) law h = absurd (let open_yet = law.0.open_yet in cc)
+end_newest z (entry.Stored q ∷ b) law h = absurd (let open_yet = law.0.open_yet in cc)
+end_newest z (entry.Block block state ∷ b) law h = absurd (let open_yet = law.0.open_yet in cc)
+end_newest z (entry.Register manager block slots ∷ b) law h = absurd (let open_yet = law.0.open_yet in cc)
+end_newest z (entry.Refused block version ∷ b) law h = absurd (let open_yet = law.0.open_yet in cc)
+end_newest z (entry.Tick at ∷ b) law h = absurd (let open_yet = law.0.open_yet in cc)
+end_newest z (entry.Beat manager ∷ b) law h = absurd (let open_yet = law.0.open_yet in cc)
+end_newest z (entry.Silent manager ∷ b) law h = absurd (let open_yet = law.0.open_yet in cc)
+end_newest z (entry.Lost manager ∷ b) law h = absurd (let open_yet = law.0.open_yet in cc)
+end_newest z (entry.Drain manager ∷ b) law h = absurd (let open_yet = law.0.open_yet in cc)
+end_newest z (entry.Drained manager ∷ b) law h = absurd (let open_yet = law.0.open_yet in cc)
+end_newest z (entry.Hold manager ∷ b) law h = absurd (let open_yet = law.0.open_yet in cc)
+end_newest z (entry.Scale decided ∷ b) law h = absurd (let open_yet = law.0.open_yet in cc)
+end_newest z (entry.Checkpoint count ∷ b) law h = absurd (let open_yet = law.0.open_yet in cc)
 
 -- where the end stands, it is the last entry
 pub complete-now : (w : Known) → Inv w → has_end w.past ≡ true → IsComplete w.past

@@ -154,7 +154,7 @@ keep-over w inv can =
                 );
                 launching = (tt, b.launching);
                 attempts = (tt, b.attempts);
-                managers = (tt, b.managers);
+                managers = (refl, b.managers);
               };
           ends = λ g. record { over = done.over; settled = done.settled };
         };

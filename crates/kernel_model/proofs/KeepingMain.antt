@@ -498,7 +498,7 @@ keep-called w app arguments names inv asks =
                 );
                 launching = (tt, b.launching);
                 attempts = (tt, b.attempts);
-                managers = (tt, b.managers);
+                managers = (refl, b.managers);
               };
           ends = λ g. absurd (cc);
         };

@@ -306,7 +306,7 @@ keep-child w k n c h can =
               );
               launching = (tt, b.launching);
               attempts = (tt, b.attempts);
-              managers = (tt, b.managers);
+              managers = (refl, b.managers);
             };
         ends = λ ended. absurd (cc);
       };

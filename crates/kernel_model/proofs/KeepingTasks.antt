@@ -100,7 +100,7 @@ keep-launched w k inv can =
                 number = ap (λ (n : ℕ). n + 1) before.attempts;
                 follows = subst (λ (t : Stage). MayFollow no_retries.limit (costs no_retries p w.past) t) last tt;
               };
-              managers = tt;
+              managers = refl;
             };
       });
       quiet = λ j n lt at. absurd (cc);
@@ -289,7 +289,7 @@ keep-closed w k outcome inv can =
               };
               launching = tt;
               attempts = can.attempts losses e;
-              managers = tt;
+              managers = refl;
             };
       });
       quiet = λ j n lt at. absurd (cc);
@@ -442,7 +442,7 @@ keep-joining w k ran inv can =
               joins = c.joins can.callback.inputs ∙ ap is_join can.begins;
             };
             attempts = tt;
-            managers = tt;
+            managers = refl;
           };
     })
 

@@ -12,11 +12,8 @@ pub mod Whole
 pub mod Progress
 pub mod Working
 pub mod Quiet
-pub mod Views
 pub mod Counting
 pub mod Passing
-pub mod Numbered
-pub mod PlainScripts
 pub mod Waits
 pub mod Pairing
 pub mod Totals

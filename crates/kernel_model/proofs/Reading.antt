@@ -83,6 +83,23 @@ other-life r (entry.Settled q s) p o b life is ne h =
     }
 other-life r (entry.Submit q app) p o b life is ne h = absurd is
 other-life r entry.End p o b life is ne h = absurd is
+other-life r (entry.MemoHit q) p o b life is ne h = absurd is
+other-life r (entry.Dispatch q n manager) p o b life is ne h = absurd is
+other-life r (entry.Held q n manager) p o b life is ne h = absurd is
+other-life r (entry.LostTry q n manager) p o b life is ne h = absurd is
+other-life r (entry.Stored q) p o b life is ne h = absurd is
+other-life r (entry.Block block state) p o b life is ne h = absurd is
+other-life r (entry.Register manager block slots) p o b life is ne h = absurd is
+other-life r (entry.Refused block version) p o b life is ne h = absurd is
+other-life r (entry.Tick at) p o b life is ne h = absurd is
+other-life r (entry.Beat manager) p o b life is ne h = absurd is
+other-life r (entry.Silent manager) p o b life is ne h = absurd is
+other-life r (entry.Lost manager) p o b life is ne h = absurd is
+other-life r (entry.Drain manager) p o b life is ne h = absurd is
+other-life r (entry.Drained manager) p o b life is ne h = absurd is
+other-life r (entry.Hold manager) p o b life is ne h = absurd is
+other-life r (entry.Scale decided) p o b life is ne h = absurd is
+other-life r (entry.Checkpoint count) p o b life is ne h = absurd is
 
 pub task-submits : (e : Entry) (p : Path) (b : History) → IsOfTask e p → submits (e ∷ b) ≡ submits b
 task-submits (entry.JoinRun q) p b is = refl
@@ -92,6 +109,23 @@ task-submits (entry.Ended q n manager kind) p b is = refl
 task-submits (entry.Settled q s) p b is = refl
 task-submits (entry.Submit q app) p b is = absurd is
 task-submits entry.End p b is = absurd is
+task-submits (entry.MemoHit q) p b is = absurd is
+task-submits (entry.Dispatch q n manager) p b is = absurd is
+task-submits (entry.Held q n manager) p b is = absurd is
+task-submits (entry.LostTry q n manager) p b is = absurd is
+task-submits (entry.Stored q) p b is = absurd is
+task-submits (entry.Block block state) p b is = absurd is
+task-submits (entry.Register manager block slots) p b is = absurd is
+task-submits (entry.Refused block version) p b is = absurd is
+task-submits (entry.Tick at) p b is = absurd is
+task-submits (entry.Beat manager) p b is = absurd is
+task-submits (entry.Silent manager) p b is = absurd is
+task-submits (entry.Lost manager) p b is = absurd is
+task-submits (entry.Drain manager) p b is = absurd is
+task-submits (entry.Drained manager) p b is = absurd is
+task-submits (entry.Hold manager) p b is = absurd is
+task-submits (entry.Scale decided) p b is = absurd is
+task-submits (entry.Checkpoint count) p b is = absurd is
 
 pub task-submitted : (e : Entry) (p : Path) (b : History) (o : Path) → IsOfTask e p → is_submitted o (e ∷ b) ≡ is_submitted o b
 task-submitted (entry.JoinRun q) p b o is = refl
@@ -101,6 +135,23 @@ task-submitted (entry.Ended q n manager kind) p b o is = refl
 task-submitted (entry.Settled q s) p b o is = refl
 task-submitted (entry.Submit q app) p b o is = absurd is
 task-submitted entry.End p b o is = absurd is
+task-submitted (entry.MemoHit q) p b o is = absurd is
+task-submitted (entry.Dispatch q n manager) p b o is = absurd is
+task-submitted (entry.Held q n manager) p b o is = absurd is
+task-submitted (entry.LostTry q n manager) p b o is = absurd is
+task-submitted (entry.Stored q) p b o is = absurd is
+task-submitted (entry.Block block state) p b o is = absurd is
+task-submitted (entry.Register manager block slots) p b o is = absurd is
+task-submitted (entry.Refused block version) p b o is = absurd is
+task-submitted (entry.Tick at) p b o is = absurd is
+task-submitted (entry.Beat manager) p b o is = absurd is
+task-submitted (entry.Silent manager) p b o is = absurd is
+task-submitted (entry.Lost manager) p b o is = absurd is
+task-submitted (entry.Drain manager) p b o is = absurd is
+task-submitted (entry.Drained manager) p b o is = absurd is
+task-submitted (entry.Hold manager) p b o is = absurd is
+task-submitted (entry.Scale decided) p b o is = absurd is
+task-submitted (entry.Checkpoint count) p b o is = absurd is
 
 pub task-ends : (e : Entry) (p : Path) (b : History) → IsOfTask e p → has_end (e ∷ b) ≡ has_end b
 task-ends (entry.JoinRun q) p b is = refl
@@ -110,6 +161,23 @@ task-ends (entry.Ended q n manager kind) p b is = refl
 task-ends (entry.Settled q s) p b is = refl
 task-ends (entry.Submit q app) p b is = absurd is
 task-ends entry.End p b is = absurd is
+task-ends (entry.MemoHit q) p b is = absurd is
+task-ends (entry.Dispatch q n manager) p b is = absurd is
+task-ends (entry.Held q n manager) p b is = absurd is
+task-ends (entry.LostTry q n manager) p b is = absurd is
+task-ends (entry.Stored q) p b is = absurd is
+task-ends (entry.Block block state) p b is = absurd is
+task-ends (entry.Register manager block slots) p b is = absurd is
+task-ends (entry.Refused block version) p b is = absurd is
+task-ends (entry.Tick at) p b is = absurd is
+task-ends (entry.Beat manager) p b is = absurd is
+task-ends (entry.Silent manager) p b is = absurd is
+task-ends (entry.Lost manager) p b is = absurd is
+task-ends (entry.Drain manager) p b is = absurd is
+task-ends (entry.Drained manager) p b is = absurd is
+task-ends (entry.Hold manager) p b is = absurd is
+task-ends (entry.Scale decided) p b is = absurd is
+task-ends (entry.Checkpoint count) p b is = absurd is
 
 -- a submission and the end change nothing of a task's life
 pub submit-life : (r : Retries) (q : Path) (app : Text) (p : Path) (b : History) (life : Life) → IsLife r p b life → IsLife r p (entry.Submit q app ∷ b) life
@@ -143,6 +211,23 @@ settled-stays (entry.Settled q s) p b h = some_if (bytes_eq p q) s (settled p b)
 settled-stays (entry.Submit q app) p b h = h
 settled-stays (entry.JoinRun q) p b h = h
 settled-stays entry.End p b h = h
+settled-stays (entry.MemoHit q) p b h = h
+settled-stays (entry.Dispatch q n manager) p b h = h
+settled-stays (entry.Held q n manager) p b h = h
+settled-stays (entry.LostTry q n manager) p b h = h
+settled-stays (entry.Stored q) p b h = h
+settled-stays (entry.Block block state) p b h = h
+settled-stays (entry.Register manager block slots) p b h = h
+settled-stays (entry.Refused block version) p b h = h
+settled-stays (entry.Tick at) p b h = h
+settled-stays (entry.Beat manager) p b h = h
+settled-stays (entry.Silent manager) p b h = h
+settled-stays (entry.Lost manager) p b h = h
+settled-stays (entry.Drain manager) p b h = h
+settled-stays (entry.Drained manager) p b h = h
+settled-stays (entry.Hold manager) p b h = h
+settled-stays (entry.Scale decided) p b h = h
+settled-stays (entry.Checkpoint count) p b h = h
 
 pub waits-stay : (e : Entry) (acts : List MainEvent) (b : History) → WaitsSettled acts b → WaitsSettled acts (e ∷ b)
 waits-stay e [] b h = tt

@@ -1,5 +1,5 @@
 -- What main waits for is a call that is there.
-use Rattle.std.proofs.Common.{◌≡◌, ℕ, suc, ◌<◌, List, [], ◌∷◌, length, refl, sym, ◌∙◌, ap, subst}
+use Rattle.std.proofs.Common.{◌≡◌, ℕ, ◌<◌, [], ◌∷◌, List, length, refl, sym, ◌∙◌, ap, subst}
 use Rattle.flow_base.specs.declared.value.Value.{Value, out-Value}
 use Rattle.flow_base.specs.declared.value.Value.TheOpen.{Value-F}
 use Rattle.flow_meaning.specs.declared.walk.Request.TheVariants as request
@@ -14,7 +14,6 @@ use Rattle.call_rules.specs.Told.{IsChild, Asks}
 use Rattle.history_laws.specs.Reads.{submits}
 use Rattle.kernel_model.specs.Known.{Known, path_at, settled_outcome, known, main_left}
 use Rattle.kernel_model.specs.Invariants.{Inv}
-use Rattle.kernel_model.specs.PlainScripts.{CallsAreNumbered}
 use Rattle.call_rules.proofs.Asking.{asks-wait}
 use Rattle.kernel_model.proofs.Places.{known-at}
 
@@ -25,21 +24,11 @@ pub record WaitsFor (w : Known) (p : Path) : Type 0 where
   pub is : p ≡ path_at w place
   pub outcome : outcome_at (known w) p ≡ settled_outcome w place
 
--- and its number is its place
-pub record WaitsForNumber (w : Known) (p : Path) : Type 0 where
-  pub place : ℕ
-  pub within : place < length w.calls
-  pub is : p ≡ suc place ∷ []
-  pub outcome : outcome_at (known w) p ≡ settled_outcome w place
-
 of_child : (w : Known) → Inv w → (p : Path) → IsChild [] (submits w.past) p → WaitsFor w p
 of_child w inv p c =
     let at = inv.holds.main.mains c.number c.below in
     let is : p ≡ path_at w at.0 = c.is ∙ sym at.2 in
     record { place = at.0; within = at.1; is = is; outcome = ap (outcome_at (known w)) is ∙ known-at w inv.holds.tracks at.0 at.1 }
-
-of_number : (w : Known) → CallsAreNumbered w → (p : Path) → WaitsFor w p → WaitsForNumber w p
-of_number w numbered p at = record { place = at.place; within = at.within; is = at.is ∙ numbered at.place at.within; outcome = at.outcome }
 
 -- a value has one path at most
 each_path : (P : Path → Type 0) (layer : Layer) → ((p : Path) (qs : List Path) → path_in layer ≡ p ∷ qs → P p) → Each P (path_in layer)
@@ -63,16 +52,10 @@ name-waits_for w inv f go left p qs at =
     let a = subst (Asks [] (submits w.past)) left inv.holds.main.asks in
     of_child w inv p (asks-wait [] (submits w.past) (Ask (request.WaitName f) go) f p qs a a.told.0 at)
 
--- ---- where calls are numbered
+-- ---- whichever path it is
 
-pub value-waits_for_number : (w : Known) → Inv w → CallsAreNumbered w → (f : Value) (go : Answer → Act Done) → main_left w ≡ Ask (request.WaitValue f) go → (p : Path) (qs : List Path) → path_in (out-Value f) ≡ p ∷ qs → WaitsForNumber w p
-value-waits_for_number w inv numbered f go left p qs at = of_number w numbered p (value-waits_for w inv f go left p qs at)
+pub each-value-waits_for : (w : Known) → Inv w → (f : Value) (go : Answer → Act Done) → main_left w ≡ Ask (request.WaitValue f) go → Each (WaitsFor w) (path_in (out-Value f))
+each-value-waits_for w inv f go left = each_path (WaitsFor w) (out-Value f) (value-waits_for w inv f go left)
 
-pub name-waits_for_number : (w : Known) → Inv w → CallsAreNumbered w → (f : Value) (go : Answer → Act Done) → main_left w ≡ Ask (request.WaitName f) go → (p : Path) (qs : List Path) → path_in (out-Value f) ≡ p ∷ qs → WaitsForNumber w p
-name-waits_for_number w inv numbered f go left p qs at = of_number w numbered p (name-waits_for w inv f go left p qs at)
-
-pub each-value-waits_for : (w : Known) → Inv w → CallsAreNumbered w → (f : Value) (go : Answer → Act Done) → main_left w ≡ Ask (request.WaitValue f) go → Each (WaitsForNumber w) (path_in (out-Value f))
-each-value-waits_for w inv numbered f go left = each_path (WaitsForNumber w) (out-Value f) (value-waits_for_number w inv numbered f go left)
-
-pub each-name-waits_for : (w : Known) → Inv w → CallsAreNumbered w → (f : Value) (go : Answer → Act Done) → main_left w ≡ Ask (request.WaitName f) go → Each (WaitsForNumber w) (path_in (out-Value f))
-each-name-waits_for w inv numbered f go left = each_path (WaitsForNumber w) (out-Value f) (name-waits_for_number w inv numbered f go left)
+pub each-name-waits_for : (w : Known) → Inv w → (f : Value) (go : Answer → Act Done) → main_left w ≡ Ask (request.WaitName f) go → Each (WaitsFor w) (path_in (out-Value f))
+each-name-waits_for w inv f go left = each_path (WaitsFor w) (out-Value f) (name-waits_for w inv f go left)

@@ -7,4 +7,3 @@ pub mod Conditions
 pub mod Evaluated
 pub mod Work
 pub mod Limits
-pub mod PlainScripts

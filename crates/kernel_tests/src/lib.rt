@@ -2,4 +2,10 @@
 #![tactic(auto)]
 
 #[cfg(test)]
-mod tests;
+mod diamond;
+#[cfg(test)]
+mod mergesort;
+#[cfg(test)]
+mod runs;
+#[cfg(test)]
+mod tasks;

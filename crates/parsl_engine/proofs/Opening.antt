@@ -1,7 +1,7 @@
--- A script that can be run has no join apps and fewer than 2^32 apps.
-use Rattle.std.proofs.Common.{◌≡◌, ℕ, zero, suc, ◌+◌, ◌≤◌, Bool, true, false, List, [], ◌∷◌, ◌++◌, length, refl, sym, ◌∙◌, ap, arith, length-append, Some}
-use Rattle.std.specs.Prelude.{◌&&◌, not, nat_eq, flat_map, Ok, Err, drop, slice_get}
-use Rattle.std.specs.List.{list_all, prefix_len}
+-- A script that has a text has fewer than 2^32 apps.
+use Rattle.std.proofs.Common.{◌≡◌, ℕ, zero, suc, ◌+◌, ◌<◌, ◌≤◌, ◌^◌, Bool, true, false, List, [], ◌∷◌, ◌++◌, length, refl, sym, ◌∙◌, ap, arith, length-append}
+use Rattle.std.specs.Prelude.{nat_eq, flat_map, Ok, Err, drop}
+use Rattle.std.specs.List.{prefix_len}
 use Rattle.std.proofs.lemmas.List.{length-map}
 use Rattle.script_tree.specs.declared.tree.AppDef.{AppDef}
 use Rattle.script_tree.specs.declared.token.Token.TheVariants as t
@@ -9,24 +9,7 @@ use Rattle.script_tree.specs.declared.token.Keyword.TheVariants as w
 use Rattle.script_tree.specs.Grammar.{PlacedTree, HasTree, Tree, max_text}
 use Rattle.script_tree.specs.Lexing.{Text, Lexed, Piece, lex, lex_from, after_piece, after_comment, piece, is_blank, is_in_comment}
 use Rattle.script_tree.specs.Spelling.{Tokens, app, block, when, word, script}
-use Rattle.kernel_core.specs.Views.{Opens}
-use Rattle.parsl_engine.specs.Scripts.{IsOfText, is_plain_app, IsPlainScript}
-
--- ---- no join apps
-
-and_parts : (a b : Bool) → (a && b) ≡ true → (a ≡ true) × (b ≡ true)
-and_parts true b h = (refl, h)
-and_parts false b h = absurd (cc)
-
-no_join : (cached join : Bool) → (not cached && not join) ≡ true → join ≡ false
-no_join false false h = refl
-no_join false true h = absurd (cc)
-no_join true join h = absurd (cc)
-
-none_joins : (apps : List AppDef) → list_all is_plain_app apps ≡ true → (k : ℕ) (a : AppDef) → slice_get apps k ≡ Some a → a.join ≡ false
-none_joins [] all k a at = absurd (cc)
-none_joins (first ∷ apps) all zero a at = let same : first ≡ a = cc in ap (λ (x : AppDef). x.join) (sym same) ∙ no_join first.cached first.join (and_parts (is_plain_app first) (list_all is_plain_app apps) all).0
-none_joins (first ∷ apps) all (suc k) a at = none_joins apps (and_parts (is_plain_app first) (list_all is_plain_app apps) all).1 k a at
+use Rattle.parsl_engine.specs.Scripts.{IsOfText}
 
 -- ---- few apps
 
@@ -83,7 +66,7 @@ short text tree places has =
     let same : length (lex text).tokens ≡ length (script tree) = sym (length-map (lex text).tokens (λ p. p.1)) ∙ ap length has.tokens in
     omega (arith, parts, tokens, same, has.size)
 
-pub opens : (script : PlacedTree) → IsOfText script → IsPlainScript script.tree → Opens script.tree
-opens script of plain =
+pub few-apps : (script : PlacedTree) → IsOfText script → length script.tree.0 < 2 ^ 32
+few-apps script of =
     let few = short of.bytes script.tree script.places of.is.text.has in
-    record { plain = none_joins script.tree.0 plain; few_apps = omega (arith, few) }
+    omega (arith, few)

@@ -17,7 +17,7 @@ use Rattle.parsl_engine.specs.declared.script.ScriptRefusal.TheVariants.{Parse, 
 use Rattle.stored_units.specs.declared.units.Limit.{Limit}
 use Rattle.stored_units.specs.declared.units.Limit.TheVariants as limit
 use Rattle.stored_units.specs.Totals.{limit_met, IsWithinLimits}
-use Rattle.parsl_engine.specs.Scripts.{IsCheckedText, BreaksRule, IsFaulty, IsPlainScript}
+use Rattle.parsl_engine.specs.Scripts.{IsCheckedText, BreaksRule, IsFaulty, IsUncached}
 use Rattle.parsl_engine.specs.Runs.{without_losses, PassesLimit}
 use Rattle.parsl_engine.specs.Output.{Prints, IsNotYet, Refuses, Limits}
 
@@ -136,14 +136,14 @@ one_refusal c bytes a b p q = one_cause bytes a b (cause c bytes a p) (cause c b
 same_script : (bytes : List ℕ) (s t : PlacedTree) → IsCheckedText bytes s → IsCheckedText bytes t → s ≡ t
 same_script bytes s t a b = b.text.only s a.text.has
 
-not_plain : (bytes : List ℕ) (s : PlacedTree) → IsCheckedText bytes s → IsPlainScript s.tree → IsNotYet bytes → ⊥
-not_plain bytes s text plain n = n.not_plain (subst (λ (p : PlacedTree). IsPlainScript p.tree) (same_script bytes s n.script text n.text) plain)
+not_cached : (bytes : List ℕ) (s : PlacedTree) → IsCheckedText bytes s → IsUncached s.tree → IsNotYet bytes → ⊥
+not_cached bytes s text uncached n = n.cached (subst (λ (p : PlacedTree). IsUncached p.tree) (same_script bytes s n.script text n.text) uncached)
 
 pub not_refused : (c : Command) (bytes output : List ℕ) (raised : Bool) (r : ScriptRefusal) → Prints c bytes output raised → Refuses c bytes r → ⊥
-not_refused command.Run bytes output raised NotYet p n = not_plain bytes p.script p.text p.prints.plain n
+not_refused command.Run bytes output raised NotYet p n = not_cached bytes p.script p.text p.prints.uncached n
 not_refused command.Run bytes output raised (Parse kind place) p h = right_faultless bytes p.script (Parse kind place) p.text h
 not_refused command.Run bytes output raised (Check kind place) p h = right_faultless bytes p.script (Check kind place) p.text h
-not_refused command.Seq bytes output raised NotYet p n = not_plain bytes p.script p.text p.prints.plain n
+not_refused command.Seq bytes output raised NotYet p n = not_cached bytes p.script p.text p.prints.uncached n
 not_refused command.Seq bytes output raised (Parse kind place) p h = right_faultless bytes p.script (Parse kind place) p.text h
 not_refused command.Seq bytes output raised (Check kind place) p h = right_faultless bytes p.script (Check kind place) p.text h
 not_refused command.Check bytes output raised NotYet p h = h
@@ -170,9 +170,9 @@ not_limited command.Seq bytes output raised l p h =
 not_limited command.Check bytes output raised l p h = h.passes
 not_limited command.Format bytes output raised l p h = h.passes
 
-by_cause : (bytes : List ℕ) (r : ScriptRefusal) (s : PlacedTree) → IsCheckedText bytes s → IsPlainScript s.tree → Cause bytes r → ⊥
-by_cause bytes r s text plain (inl f) = right_faultless bytes s r text f
-by_cause bytes r s text plain (inr n) = not_plain bytes s text plain n.1
+by_cause : (bytes : List ℕ) (r : ScriptRefusal) (s : PlacedTree) → IsCheckedText bytes s → IsUncached s.tree → Cause bytes r → ⊥
+by_cause bytes r s text uncached (inl f) = right_faultless bytes s r text f
+by_cause bytes r s text uncached (inr n) = not_cached bytes s text uncached n.1
 
 pub limited_not_refused : (c : Command) (bytes : List ℕ) (l : Limit) (r : ScriptRefusal) → Limits c bytes l → Refuses c bytes r → ⊥
-limited_not_refused c bytes l r h f = by_cause bytes r h.script h.text h.plain (cause c bytes r f)
+limited_not_refused c bytes l r h f = by_cause bytes r h.script h.text h.uncached (cause c bytes r f)

@@ -1,5 +1,5 @@
 -- What a refused turn says.
-use Rattle.std.proofs.Common.{◌≡◌, ◌≤◌, false, length, Some, sym, ◌∙◌, ap, subst, arith}
+use Rattle.std.proofs.Common.{◌≡◌, ◌≤◌, true, false, length, Some, sym, ◌∙◌, ap, subst, arith}
 use Rattle.script_tree.specs.Grammar.{Tree}
 use Rattle.stored_units.specs.declared.units.Limit.TheVariants as limit
 use Rattle.stored_units.specs.Totals.{total_units}
@@ -10,14 +10,14 @@ use Rattle.kernel_model.specs.Known.{Known, has_ended}
 use Rattle.kernel_model.specs.Invariants.{Inv}
 use Rattle.kernel_model.specs.Acts.{refused}
 use Rattle.kernel_model.specs.Limits.{stored, passed, IsRefusedFor}
-use Rattle.kernel_model.specs.Turns.{script_step, Settles}
-use Rattle.kernel_model.proofs.Facts.{keep-script-step}
+use Rattle.kernel_model.specs.Turns.{script_step, CarriesOut, Settles}
+use Rattle.kernel_model.proofs.Facts.{keep-script-step, keep-carried-out}
 use Rattle.kernel_model.proofs.KeepingTasks.{keep-settled}
 use Rattle.kernel_model.proofs.Passing.{passed-tasks, passed-stored}
 use Rattle.kernel_model.proofs.Totals.{calls-within, stored-within}
 use Rattle.kernel_core.specs.Refused.{IsRefused}
 use Rattle.parsl_engine.specs.Runs.{without_losses, PassesLimit, RefusesFor}
-use Rattle.parsl_engine.proofs.Turning.{going-open, script-stays}
+use Rattle.parsl_engine.proofs.Turning.{going-open, script-stays, callback-stays}
 
 -- ---- a kernel past a limit is that of an evaluation past it
 
@@ -45,6 +45,9 @@ cause tree Leaves StoreLimit are h = let u = are h.0 h.1 in subst (λ (t : Tree)
 script_leaves : (w : Known) → Inv w → has_ended w ≡ false → AreOf w.tree (λ v. v ≡ (script_step w).1)
 script_leaves w inv going u is = (subst Inv (sym is) (keep-script-step w inv going), ap (λ (x : Known). x.tree) is ∙ (script-stays w).tree)
 
+callback_leaves : (w : Known) → Inv w → has_ended w ≡ false → AreOf w.tree (CarriesOut w)
+callback_leaves w inv going u s = (keep-carried-out w u inv going s, (callback-stays w u true s).tree)
+
 settle_leaves : (w : Known) → Inv w → has_ended w ≡ false → AreOf w.tree (Settles w)
 settle_leaves w inv going u s =
     (subst Inv (sym s.after) (keep-settled w s.task s.outcome inv (record { not_ended = going; over = s.over; is = s.is })), ap (λ (x : Known). x.tree) s.after)
@@ -65,6 +68,11 @@ stopped w v told refusal going after why = record {
 
 pub script-stopped : (w v : Known) (refusal : Refusal) → has_ended w ≡ false → Inv w → IsRefused w v (λ u. u ≡ (script_step w).1) refusal → IsStopped w v refusal
 script-stopped w v refusal going inv h = stopped w v refusal refusal going h.after (cause w.tree (λ u. u ≡ (script_step w).1) refusal (script_leaves w inv going) h.cause)
+
+pub callback-stopped : (w u v : Known) (refusal : Refusal) → u ≡ w → has_ended w ≡ false → Inv w → IsRefused u v (CarriesOut u) refusal → IsStopped w v refusal
+callback-stopped w u v refusal same going inv h =
+    let here : IsRefused w v (CarriesOut w) refusal = subst (λ (x : Known). IsRefused x v (CarriesOut x) refusal) same h in
+    stopped w v refusal refusal going here.after (cause w.tree (CarriesOut w) refusal (callback_leaves w inv going) here.cause)
 
 pub settle-stopped : (w u v : Known) (refusal : Refusal) → u ≡ w → has_ended w ≡ false → Inv w → IsRefused u v (Settles u) refusal → IsStopped w v refusal
 settle-stopped w u v refusal same going inv h =

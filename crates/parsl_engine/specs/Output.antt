@@ -9,6 +9,7 @@ use Rattle.event_log.specs.declared.entry.Entry.{Entry}
 use Rattle.script_tree.specs.Canonical.{canonical}
 use Rattle.script_tree.specs.Grammar.{PlacedTree}
 use Rattle.flow_meaning.specs.Evaluations.{evaluation}
+use Rattle.log_lines.specs.ReadBack.{IsReadBack}
 use Rattle.run_report.specs.Reported.{report_text}
 use Rattle.run_report.specs.Shown.{head_text}
 use Rattle.stored_units.specs.declared.units.Limit.{Limit}
@@ -26,7 +27,7 @@ use Rattle.parsl_engine.specs.declared.run.PartEnd.{PartEnd}
 use Rattle.parsl_engine.specs.declared.run.PartEnd.TheVariants.{Ended, Refused as run_refused}
 use Rattle.parsl_engine.specs.declared.run.RunEnd.{RunEnd}
 use Rattle.parsl_engine.specs.Runs.{IsWholeLog, without_losses, PassesLimit}
-use Rattle.parsl_engine.specs.Scripts.{IsCheckedText, IsFaulty, IsPlainScript}
+use Rattle.parsl_engine.specs.Scripts.{IsCheckedText, IsFaulty, IsUncached}
 
 -- ---- what is printed
 
@@ -36,18 +37,19 @@ is_raised ending.Ended = false
 is_raised (ending.Raised exception) = true
 
 -- The output of a run is the report of the script's sequential evaluation, which is within the limits, and of a
--- legal and complete log.
+-- legal and complete log: the one that is read back from it.
 pub record Reports (script : PlacedTree) (output : List ℕ) (raised : Bool) : Type 0 where
-  pub plain : IsPlainScript script.tree
+  pub uncached : IsUncached script.tree
   pub within : IsWithinLimits (without_losses script.tree)
   pub log : List Entry
   pub whole : IsWholeLog script.tree log
   pub report : output ≡ report_text (evaluation script.tree) log
+  pub reads : IsReadBack output log
   pub raised_is : raised ≡ is_raised (evaluation script.tree).main
 
 -- the head of the script's sequential evaluation, which meets no limit
 pub record Heads (script : PlacedTree) (output : List ℕ) (raised : Bool) : Type 0 where
-  pub plain : IsPlainScript script.tree
+  pub uncached : IsUncached script.tree
   pub within : limit_met (without_losses script.tree) ≡ None
   pub head : output ≡ head_text (evaluation script.tree)
   pub raised_is : raised ≡ is_raised (evaluation script.tree).main
@@ -70,11 +72,11 @@ pub record Prints (c : Command) (bytes output : List ℕ) (raised : Bool) : Type
 
 -- ---- what is refused
 
--- the bytes are a text of a script that breaks no rule, and has a cached or a join app
+-- the bytes are a text of a script that breaks no rule, and has a cached app
 pub record IsNotYet (bytes : List ℕ) : Type 0 where
   pub script : PlacedTree
   pub text : IsCheckedText bytes script
-  pub not_plain : IsPlainScript script.tree → ⊥
+  pub cached : IsUncached script.tree → ⊥
 
 -- the bytes of a script are refused for this
 abbrev pub Refuses : Command → List ℕ → ScriptRefusal → Type 0
@@ -89,11 +91,11 @@ LimitsFor command.Run script l = PassesLimit script.tree l
 LimitsFor command.Seq script l = limit_met (without_losses script.tree) ≡ Some l
 LimitsFor c script l = ⊥
 
--- the bytes are a text of a script without cached and join apps, and its evaluation passes the limit
+-- the bytes are a text of a script without cached apps, and its evaluation passes the limit
 pub record Limits (c : Command) (bytes : List ℕ) (l : Limit) : Type 0 where
   pub script : PlacedTree
   pub text : IsCheckedText bytes script
-  pub plain : IsPlainScript script.tree
+  pub uncached : IsUncached script.tree
   pub passes : LimitsFor c script l
 
 -- ---- outputs
@@ -107,9 +109,9 @@ Produces c bytes (Err NoMemory) = Unit {0}
 -- what a command gives for a script that breaks no rule, where the command may refuse it
 abbrev pub Gives : Command → PlacedTree → Result Output ScriptFault → Type 0
 Gives c script (Ok output) = PrintsFor c script output.text.items output.raised
-Gives c script (Err (Refused NotYet)) = IsPlainScript script.tree → ⊥
+Gives c script (Err (Refused NotYet)) = IsUncached script.tree → ⊥
 Gives c script (Err (Refused refusal)) = ⊥
-Gives c script (Err (Limited l)) = IsPlainScript script.tree × LimitsFor c script l
+Gives c script (Err (Limited l)) = IsUncached script.tree × LimitsFor c script l
 Gives c script (Err NoMemory) = Unit {0}
 
 -- ---- the report of a run

@@ -1,5 +1,5 @@
 -- What a script's bytes are read as.
-use Rattle.std.specs.Prelude.{◌≡◌, ℕ, Bool, true, not, ◌&&◌, List, Ok, Err}
+use Rattle.std.specs.Prelude.{◌≡◌, ℕ, true, not, List, Ok, Err}
 use Rattle.std.specs.List.{list_all}
 use Rattle.std.specs.declared.result.Result.{Result}
 use Rattle.script_tree.specs.declared.checked.Checked.{Checked}
@@ -43,9 +43,6 @@ IsRead bytes (Err NoMemory) = Unit {0}
 
 -- ---- scripts that can be run
 
-abbrev pub is_plain_app : AppDef → Bool
-is_plain_app app = not app.cached && not app.join
-
--- it has neither cached nor join apps
-abbrev pub IsPlainScript : Tree → Type 0
-IsPlainScript tree = list_all is_plain_app tree.0 ≡ true
+-- it has no cached apps
+abbrev pub IsUncached : Tree → Type 0
+IsUncached tree = list_all (λ (app : AppDef). not app.cached) tree.0 ≡ true

@@ -6,10 +6,12 @@ ghost use Rattle.parsl_engine.specs.Output.{Produces, Gives, Tells, is_raised};
 ghost use Rattle.parsl_engine.specs.declared.words.Command.TheVariants.{Run, Seq};
 
 use crate::run::{PartEnd, RunEnd, run_alone};
-use crate::script::{ScriptFault, ScriptRefusal, is_plain_script, read_script};
+use crate::script::{ScriptFault, ScriptRefusal, is_uncached, read_script};
 use crate::words::Command;
 use flow_base::Ending;
 use kernel_core::{Ledger, Opening, Refusal};
+use log_lines::lines::texts_have_names;
+use log_lines::{in_range, reports_are_read_back};
 use run_report::{head, report};
 use script_eval::{EvalFault, Losses, evaluate};
 use script_print::print;
@@ -55,13 +57,16 @@ fn run_output(alloc: Global, script: Checked) -> Result<Output, ScriptFault>
     requires { IsOfText script }
     ensures { Gives Run script result }
 {
-    if !is_plain_script(&script) {
+    if !is_uncached(&script) {
         return Err(ScriptFault::Refused(ScriptRefusal::NotYet));
     }
     let Ok(script) = Arc::new(alloc, script) else {
         return Err(ScriptFault::NoMemory);
     };
     let run = run_alone::<Ledger>(alloc, Opening { script });
+    in_range(run.history.as_slice());
+    texts_have_names();
+    reports_are_read_back();
     whole_report(alloc, &run)
 }
 
@@ -88,7 +93,7 @@ fn head_output(alloc: Global, script: &Checked) -> Result<Output, ScriptFault>
     requires { IsOfText script.now }
     ensures { Gives Seq script.now result }
 {
-    if !is_plain_script(script) {
+    if !is_uncached(script) {
         return Err(ScriptFault::Refused(ScriptRefusal::NotYet));
     }
     match evaluate(alloc, script, &Losses::new(alloc)) {

@@ -1,11 +1,10 @@
 //! A whole run on the calling thread.
 
-ghost use Rattle.std.specs.Prelude.{◌≡◌, ◌<◌, false, IfOk, IfErr, OnOk, OnErr};
+ghost use Rattle.std.specs.Prelude.{◌≡◌, ◌<◌, ◌^◌, false, length, IfOk, IfErr, OnOk, OnErr};
 ghost use Rattle.std.specs.Arc.{arc_value};
 ghost use Rattle.history_laws.specs.Reads.{has_end};
 ghost use Rattle.kernel_model.specs.Known.{has_ended, status_at};
 ghost use Rattle.kernel_model.specs.Work.{NoneRuns};
-ghost use Rattle.kernel_core.specs.Views.{Opens};
 ghost use Rattle.parsl_engine.specs.Runs.{IsRun, RefusesFor, EndsFor, is_ended};
 ghost use Rattle.parsl_engine.specs.Rounds.{Keeps, AttemptTurn};
 
@@ -33,10 +32,9 @@ pub struct RunEnd {
     pub history: Entries,
 }
 
-/// Runs a script without join apps to its end: turns of main, callbacks, attempts and settlings as they
-/// come.
+/// Runs a script to its end: turns of main, callbacks, attempts and settlings as they come.
 pub fn run_alone<M: Monitor>(alloc: Global, opening: Opening) -> RunEnd
-    requires { Opens (arc_value opening.script).tree }
+    requires { length (arc_value opening.script).tree.0 < 2 ^ 32 }
     ensures { IsRun (arc_value opening.script).tree result }
 {
     match Kernel::<M>::new(alloc, opening, Vec::new(alloc)) {

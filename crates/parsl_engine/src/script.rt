@@ -1,8 +1,8 @@
 //! Scripts that are read and checked.
 
-ghost use Rattle.std.specs.Prelude.{◌≡◌, IsTrue, ◌↔◌};
+ghost use Rattle.std.specs.Prelude.{◌≡◌, IsTrue, ◌↔◌, not};
 ghost use Rattle.std.specs.List.{list_all};
-ghost use Rattle.parsl_engine.specs.Scripts.{IsRead, IsPlainScript, is_plain_app as is_plain};
+ghost use Rattle.parsl_engine.specs.Scripts.{IsRead, IsUncached};
 
 use app_check::{CheckFault, check};
 use app_script::parse::{ParseFault, parse};
@@ -19,7 +19,7 @@ pub enum ScriptRefusal {
     Parse { kind: SyntaxFault, place: u32 },
     /// The script breaks this rule at this place.
     Check { kind: Rule, place: u32 },
-    /// The script has a cached or a join app, and can't be run yet.
+    /// The script has a cached app, and can't be run yet.
     NotYet,
 }
 
@@ -65,26 +65,15 @@ pub fn read_script(alloc: Global, bytes: &[u8]) -> Result<Checked, ScriptFault>
     }
 }
 
-/// Whether it has neither cached nor join apps.
-pub fn is_plain_script(script: &Checked) -> bool
-    ensures { IsTrue result ↔ IsPlainScript script.now.tree }
+/// Whether it has no cached apps.
+pub fn is_uncached(script: &Checked) -> bool
+    ensures { IsTrue result ↔ IsUncached script.now.tree }
 {
-    are_plain_apps(script.script().apps())
+    are_uncached(script.script().apps())
 }
 
-fn are_plain_apps(apps: &[AppDef]) -> bool
-    ensures { result ≡ list_all is_plain apps.now }
+fn are_uncached(apps: &[AppDef]) -> bool
+    ensures { result ≡ list_all (λ app. not app.cached) apps.now }
 {
-    for app in apps {
-        if !is_plain_app(app) {
-            return false;
-        }
-    }
-    true
-}
-
-fn is_plain_app(app: &AppDef) -> bool
-    ensures { result ≡ is_plain app.now }
-{
-    !app.cached && !app.join
+    apps.iter().all(|app| !app.cached)
 }

@@ -1,18 +1,22 @@
-use Rattle.std.proofs.Common.{sym, subst}
+use Rattle.std.proofs.Common.{◌<◌, ◌^◌, length, All, sym, subst}
 use Rattle.script_tree.specs.Grammar.{PlacedTree}
-use Rattle.kernel_core.specs.Views.{Opens}
+use Rattle.event_log.specs.Logs.{InRange}
+use Rattle.kernel_model.specs.Known.{no_retries}
 use Rattle.parsl_engine.specs.Runs.{IsRun}
-use Rattle.parsl_engine.proofs.Opening.{opens}
+use Rattle.parsl_engine.proofs.Opening.{few-apps}
 use Rattle.parsl_engine.proofs.Outputs.{run_gives}
 use Rattle.parsl_engine.proofs.output.run_output.Goals as goal
 
 pub run_alone-run-requires : goal.run_alone-run-requires
 run_alone-run-requires c =
-    let plain = c.is_plain_script.ensures.0 c.if-not-is_plain_script.false in
-    subst (λ (p : PlacedTree). Opens p.tree) (sym c.in-Ok.ensures.ok) (opens c.args.script c.requires plain)
+    subst (λ (p : PlacedTree). length p.tree.0 < 2 ^ 32) (sym c.in-Ok.ensures.ok) (few-apps c.args.script c.requires)
 
 pub returns : goal.returns
 returns c =
-    let plain = c.is_plain_script.ensures.0 c.if-not-is_plain_script.false in
+    let uncached = c.is_uncached.ensures.0 c.if-not-is_uncached.false in
     let run = subst (λ (p : PlacedTree). IsRun p.tree c.run_alone-run.result) c.in-Ok.ensures.ok c.run_alone-run.ensures in
-    run_gives c.args.script c.run_alone-run.result c.whole_report.result plain run c.whole_report.ensures
+    let of = c.requires in
+    let script = c.args.script in
+    let names = c.texts_have_names.ensures of.bytes script.tree script.places of.is.text.has in
+    let ranges = subst (All InRange) c.as_slice.ensures c.in_range.ensures in
+    run_gives c.args.script c.run_alone-run.result c.whole_report.result (λ whole. c.reports_are_read_back.ensures script.tree no_retries c.run_alone-run.result.history of.is.well_formed names whole.legal ranges) uncached run c.whole_report.ensures

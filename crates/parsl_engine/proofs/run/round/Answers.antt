@@ -3,7 +3,7 @@ use Rattle.std.proofs.lemmas.Result.{err_from_is_err_and}
 use Rattle.kernel_model.specs.Turns.{CallbackTurn, SettleTurn, EndTurn}
 use Rattle.parsl_engine.specs.Rounds.{AttemptTurn}
 use Rattle.parsl_engine.proofs.Turning.{as-was, script-waits, script-keeps, callback-stays, callback-keeps, attempt-stays, attempt-keeps, settle-stays, settle-keeps, end-stays, end-keeps, no-turn}
-use Rattle.parsl_engine.proofs.Stopping.{script-stopped, settle-stopped}
+use Rattle.parsl_engine.proofs.Stopping.{script-stopped, callback-stopped, settle-stopped}
 use Rattle.parsl_engine.proofs.run.round.Goals as goal
 
 pub returns-in_err-script_turn-clause-cause : goal.returns-in_err-script_turn-clause-cause
@@ -15,6 +15,13 @@ returns-in_err-script_turn-clause-cause g c =
 pub returns-in-Advanced-clause-keeps : goal.returns-in-Advanced-clause-keeps
 returns-in-Advanced-clause-keeps g c =
     script-keeps _ _ c.requires.going c.requires.still (sym c.in_ok-script_turn.ensures.answer ∙ c.in-Advanced.is) c.in_ok-script_turn.ensures.after c.facts-in-Advanced.ensures.room
+
+pub returns-in_err-callback_turn : goal.returns-in_err-callback_turn
+returns-in_err-callback_turn g c =
+    let script = script-waits _ _ _ c.in_ok-script_turn.ensures.answer c.in_default.not-Advanced c.in_ok-script_turn.ensures.after in
+    let stop = callback-stopped _ _ _ _ script c.requires.going c.facts.ensures.fact.inv c.in_err-callback_turn.ensures.refused in
+    let p = err_from_is_err_and c.from_residual-in_err-callback_turn.result c.from_residual-in_err-callback_turn.ensures.1 in
+    record { tree = stop.tree; keeps = rw p.1 tt; unended = rw p.1 stop.unended; cause = rw (p.1, p.2) stop.cause }
 
 pub returns-then-branch : goal.returns-then-branch
 returns-then-branch g c =

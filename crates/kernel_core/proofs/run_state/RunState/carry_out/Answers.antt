@@ -1,13 +1,20 @@
-use Rattle.std.proofs.Common.{subst}
-use Rattle.kernel_core.specs.Turned.{BeginsWith}
-use Rattle.kernel_core.proofs.TurnsOfTasks.{no-callback, launches, fails}
+use Rattle.std.proofs.lemmas.Result.{err_from_is_err_and}
+use Rattle.kernel_model.specs.Turns.{begins, ends}
+use Rattle.kernel_core.proofs.TurnsOfTasks.{begin-refused, end-refused}
 use Rattle.kernel_core.proofs.run_state.RunState.carry_out.Goals as goal
 
-pub returns-in_default-clause-turn : goal.returns-in_default-clause-turn
-returns-in_default-clause-turn g c = no-callback c.args.self.now c.facts.ensures.fact c.in_default.ensures
+pub returns-in_err-begin-clause-refused : goal.returns-in_err-begin-clause-refused
+returns-in_err-begin-clause-refused g c =
+    let p = err_from_is_err_and c.from_residual.result c.from_residual.ensures.1 in
+    rw (p.1, p.2) (begin-refused c.args.self.now c.in-Some.k _ c.in-Some.ensures c.in_err-begin.ensures.refused)
 
-pub returns-in_ok-fail-in-Some-2-clause-turn : goal.returns-in_ok-fail-in-Some-2-clause-turn
-returns-in_ok-fail-in-Some-2-clause-turn g c = fails c.args.self.now c.fail.new.self c.in-Some.k c.in-Some-2.exception c.in-Some.ensures (subst (BeginsWith c.args.self.now c.in-Some.k) c.in-Some-2.is c.in_ok-exception.ensures) c.in_ok-fail-in-Some-2.ensures.ok
+pub returns-in-Some-clause-turn : goal.returns-in-Some-clause-turn
+returns-in-Some-clause-turn g c = begins c.in-Some.k c.in-Some.ensures c.in_ok-begin.ensures.ok
 
-pub returns-in_ok-launch-in-None-clause-turn : goal.returns-in_ok-launch-in-None-clause-turn
-returns-in_ok-launch-in-None-clause-turn g c = launches c.args.self.now c.launch.new.self c.in-Some.k c.in-Some.ensures (subst (BeginsWith c.args.self.now c.in-Some.k) c.in-None.is c.in_ok-exception.ensures) c.in_ok-launch-in-None.ensures.ok
+pub returns-in_err-end_join-clause-refused : goal.returns-in_err-end_join-clause-refused
+returns-in_err-end_join-clause-refused g c =
+    let p = err_from_is_err_and c.from_residual-in_err-end_join.result c.from_residual-in_err-end_join.ensures.1 in
+    rw (p.1, p.2) (end-refused c.args.self.now c.in-Some-next_join_done.k _ c.in-Some-next_join_done.ensures c.in_err-end_join.ensures.refused)
+
+pub returns-clause-turn : goal.returns-clause-turn
+returns-clause-turn g c = ends c.in-Some-next_join_done.k c.in-Some-next_join_done.ensures (c.in_ok-end_join.ensures.ok c.in-Some-next_join_done.ensures)

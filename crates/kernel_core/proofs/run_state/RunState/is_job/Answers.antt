@@ -13,10 +13,10 @@ returns-then-same_names g c =
     let manager : c.job.inside.manager ≡ 1 = search rules in
     let app : c.index.result.now.record.app ≡ c.job.inside.app = search rules in
     let names : c.index.result.now.record.names ≡ c.job.inside.names = search rules in
-    let s = shows _ c.args.self.now c.self.inside.tasks.items c.self.view_is refl refl c.self.invariant.0.fact.numbered in
+    let s = shows _ c.args.self.now c.self.inside.tasks.items c.self.view_is refl refl in
     let path = ap (λ (j : JobView). j.path) c.job.view_is ∙ c.requires.path in
     let job : JobView = record { path = c.job.inside.path; attempt = c.job.inside.attempt; manager = c.job.inside.manager; app = c.job.inside.app; arguments = c.job.inside.arguments; names = c.job.inside.names } in
-    let of : IsOfJob c.index.result.now job c.args.k = record { state = state; path = path; attempt = attempt; manager = manager; app = app; names = names } in
+    let of : IsOfJob c.args.self.now c.index.result.now job c.args.k = record { state = state; path = path; attempt = attempt; manager = manager; app = app; names = names } in
     let given = c.as_slice-then-same_names.ensures ∙ c.arguments.ensures in
-    let is = running-is c.args.self.now c.self.inside.tasks.items c.as_slice.result.now c.args.k c.index.result.now job c.as_slice-then-same_names.result.now c.as_slice-then-same_names-2.result.now c.is_resolved.result s c.as_slice.ensures.value c.requires.within c.index.ensures of given c.as_slice-then-same_names-2.ensures c.is_resolved.ensures in
+    let is = running-is c.args.self.now c.self.inside.tasks.items _ c.args.k c.index.result.now job c.as_slice-then-same_names.result.now c.as_slice-then-same_names-2.result.now c.is_resolved.result s c.settled.ensures c.requires.within c.index.ensures of given c.as_slice-then-same_names-2.ensures c.is_resolved.ensures in
     subst (λ (j : JobView). IsTrue c.is_resolved.result ↔ IsRunning c.args.self.now j c.args.k) c.job.view_is is

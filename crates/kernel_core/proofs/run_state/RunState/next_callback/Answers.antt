@@ -11,6 +11,6 @@ loop-k-preserved g c = none-from c.args.self.now c.loop-k.k c.loop-k.invariant (
 
 pub returns : goal.returns
 returns g c =
-    let s = shows _ c.args.self.now c.self.inside.tasks.items c.self.view_is refl refl c.self.invariant.0.fact.numbered in
+    let s = shows _ c.args.self.now c.self.inside.tasks.items c.self.view_is refl refl in
     let all : length c.self.inside.tasks.items ≤ c.loop-k.k = search rules in
     none-before c.args.self.now c.self.inside.tasks.items c.loop-k.k s all c.loop-k.invariant
