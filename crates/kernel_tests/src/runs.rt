@@ -1,6 +1,7 @@
 //! Runs whose turns are taken in a given order.
 
-ghost use Rattle.std.specs.Prelude.{◌≡◌, false};
+ghost use Rattle.std.specs.Prelude.{◌≡◌, ◌<◌, ◌^◌, false, length};
+ghost use Rattle.std.specs.Arc.{arc_value};
 ghost use Rattle.kernel_model.specs.Known.{has_ended};
 ghost use Rattle.parsl_engine.specs.Scripts.{IsOfText};
 
@@ -71,17 +72,28 @@ pub fn run_text(
     rounds: usize,
 ) -> Result<Given, AllocError> {
     match read_script(alloc, text) {
-        Ok(script) => run(alloc, script, order, rounds),
+        Ok(script) => run_checked(alloc, script, order, rounds),
         Err(_) => Err(AllocError),
     }
 }
 
-fn run(alloc: Global, script: Checked, order: Order, rounds: usize) -> Result<Given, AllocError>
+fn run_checked(
+    alloc: Global,
+    script: Checked,
+    order: Order,
+    rounds: usize,
+) -> Result<Given, AllocError>
     requires { IsOfText script }
 {
-    let opening = Opening {
-        script: Arc::new(alloc, script)?,
+    let Ok(script) = Arc::new(alloc, script) else {
+        return Err(AllocError);
     };
+    run(alloc, Opening { script }, order, rounds)
+}
+
+fn run(alloc: Global, opening: Opening, order: Order, rounds: usize) -> Result<Given, AllocError>
+    requires { length (arc_value opening.script).tree.0 < 2 ^ 32 }
+{
     let mut kernel = Kernel::<Ledger>::new(alloc, opening, Vec::new(alloc))?;
     for number in 0..rounds {
         if round(alloc, &mut kernel, order, number).is_err() {
