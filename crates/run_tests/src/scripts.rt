@@ -421,11 +421,11 @@ fn a_cached_app_has_at_most_16384_bytes(rt: HostRuntime) -> Result<(), Fail> {
 }
 
 #[test]
-fn a_script_with_a_cached_or_a_join_app_is_not_run_yet(rt: HostRuntime) -> Result<(), Fail> {
+fn a_script_with_a_cached_app_is_not_run_yet(rt: HostRuntime) -> Result<(), Fail> {
     for script in [
-        b"join app f() { return 1; } main { }".as_slice(),
-        b"cached app f() { return 1; } main { }",
-        b"app g() { return 1; } join app f() { return call g(); } main { print 1; }",
+        b"cached app f() { return 1; } main { }".as_slice(),
+        b"cached app f() { return 1; } main { call f(); }",
+        b"cached app g() { return 1; } join app f() { return call g(); } main { print 1; }",
     ] {
         for command in ["run", "seq"] {
             let answer = call(rt.alloc(), &[command, "s"], script, 1000)?;
