@@ -11,3 +11,7 @@ pub mod Declared
 pub mod Sizes
 pub mod Limits
 pub mod Performed
+pub mod OwnExceptions
+pub mod OwnOperators
+pub mod OwnExpressions
+pub mod OwnBlocks

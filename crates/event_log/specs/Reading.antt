@@ -9,8 +9,8 @@ use Rattle.task_record.specs.declared.status.Status.{Status}
 use Rattle.script_tree.specs.Lexing.{digits_value, begins_name, is_in_name, is_printable, max_name, escaped}
 use Rattle.event_log.specs.declared.cursor.LineFault.{LineFault}
 use Rattle.event_log.specs.declared.cursor.LineFault.TheVariants.{NoEntry, NoMemory}
-use Rattle.event_log.specs.declared.cursor.Part.{Part}
-use Rattle.event_log.specs.declared.cursor.Part.TheVariants.{End, Byte}
+use Rattle.event_log.specs.declared.cursor.TextPart.{TextPart}
+use Rattle.event_log.specs.declared.cursor.TextPart.TheVariants.{End, Byte}
 use Rattle.event_log.specs.declared.entry.Entry.{Entry}
 use Rattle.event_log.specs.declared.entry.Entry.TheVariants as made
 use Rattle.event_log.specs.declared.entry.BlockState.{BlockState}
@@ -168,19 +168,19 @@ abbrev mutual
 
 -- what stands at the front of a text behind its quote
 
-abbrev pub escape_part : Option ℕ → Option Part
+abbrev pub escape_part : Option ℕ → Option TextPart
 escape_part (Some b) = Some (Byte b 2)
 escape_part None = None
 
-abbrev pub part_behind : List ℕ → Option Part
+abbrev pub part_behind : List ℕ → Option TextPart
 part_behind [] = None
 part_behind (b ∷ bs) = escape_part (escaped b)
 
-abbrev pub part : List ℕ → Option Part
+abbrev pub part : List ℕ → Option TextPart
 part [] = None
 part (b ∷ bs) = if nat_eq b 34 then Some End else (if nat_eq b 92 then part_behind bs else (if is_printable b then Some (Byte b 1) else None))
 
-abbrev pub IsPartWithin : ℕ → Part → Type 0
+abbrev pub IsPartWithin : ℕ → TextPart → Type 0
 IsPartWithin n End = 1 ≤ n
 IsPartWithin n (Byte b taken) = (1 ≤ taken) × (taken ≤ n) × IsTextByte b
 

@@ -187,22 +187,22 @@ fn escaped(byte: u8) -> Option<u8>
 
 /// What stands at the front of a text behind its quote.
 #[derive(Clone, Copy)]
-enum Part {
+enum TextPart {
     /// The closing quote.
     End,
     /// A byte, and how many bytes spell it.
     Byte(u8, usize),
 }
 
-fn front_part(rest: &[u8]) -> Option<Part>
+fn front_part(rest: &[u8]) -> Option<TextPart>
     ensures value { result ≡ reading.part rest.now }
     ensures within { IfSome result (reading.IsPartWithin (length rest.now)) }
 {
     match rest {
-        [b'"', ..] => Some(Part::End),
+        [b'"', ..] => Some(TextPart::End),
         [b'\\'] => None,
-        [b'\\', escape, ..] => Some(Part::Byte(escaped(*escape)?, 2)),
-        [byte, ..] if is_printable(*byte) => Some(Part::Byte(*byte, 1)),
+        [b'\\', escape, ..] => Some(TextPart::Byte(escaped(*escape)?, 2)),
+        [byte, ..] if is_printable(*byte) => Some(TextPart::Byte(*byte, 1)),
         _ => None,
     }
 }
@@ -214,8 +214,8 @@ fn text_end(alloc: Global, mut rest: &[u8]) -> Result<(Text, &[u8]), LineFault>
     let mut bytes = Vec::new(alloc);
     while let Some(part) = front_part(rest) {
         match part {
-            Part::End => return Ok((Text::from_bytes(bytes), &rest[1..])),
-            Part::Byte(byte, taken) => {
+            TextPart::End => return Ok((Text::from_bytes(bytes), &rest[1..])),
+            TextPart::Byte(byte, taken) => {
                 bytes.push(byte)?;
                 rest = &rest[taken..];
             }
@@ -225,12 +225,14 @@ fn text_end(alloc: Global, mut rest: &[u8]) -> Result<(Text, &[u8]), LineFault>
 }
 
 impl<'a> Cursor<'a> {
+    /// A cursor in front of these bytes.
     pub fn new(bytes: &'a [u8]) -> Cursor<'a>
         ensures { result ≡ bytes.entry.now }
     {
         Cursor { rest: bytes }
     }
 
+    /// Whether no byte is left.
     pub fn is_at_end(&self) -> bool
         ensures { result ≡ reading.is_empty self.now }
     {
@@ -268,24 +270,28 @@ impl<'a> Cursor<'a> {
         Ok(self.word())
     }
 
+    /// A blank and a number below 2^32 without a leading zero; else `NoEntry`.
     pub fn number(&mut self) -> Result<u32, LineFault>
         ensures { reading.Gives (λ n. n) result self.new (reading.number self.old) }
     {
         number_of(self.field()?).ok_or(LineFault::NoEntry)
     }
 
+    /// A blank and a number below 2^64 without a leading zero; else `NoEntry`.
     pub fn long(&mut self) -> Result<u64, LineFault>
         ensures { reading.Gives (λ n. n) result self.new (reading.long self.old) }
     {
         long_of(self.field()?).ok_or(LineFault::NoEntry)
     }
 
+    /// A blank and numbers below 2^32 with a dot between two of them; else `NoEntry`.
     pub fn path(&mut self, alloc: Global) -> Result<Path, LineFault>
         ensures { reading.Gives (λ p. p) result self.new (reading.path self.old) }
     {
         path_of(alloc, self.field()?)
     }
 
+    /// A blank and a name of at most 64 bytes that is no keyword; else `NoEntry`.
     pub fn name(&mut self, alloc: Global) -> Result<Text, LineFault>
         ensures { reading.Gives (λ t. t) result self.new (reading.name self.old) }
     {
@@ -296,6 +302,7 @@ impl<'a> Cursor<'a> {
         Ok(text_of(alloc, word)?)
     }
 
+    /// A blank and the word for how an attempt ended, `value` or an exception's name; else `NoEntry`.
     pub fn end_word(&mut self, alloc: Global) -> Result<Text, LineFault>
         ensures { reading.Gives (λ t. t) result self.new (reading.end_word self.old) }
     {
@@ -306,18 +313,21 @@ impl<'a> Cursor<'a> {
         Ok(text_of(alloc, word)?)
     }
 
+    /// A blank and the word of a task's status; else `NoEntry`.
     pub fn status(&mut self) -> Result<Status, LineFault>
         ensures { reading.Gives (λ s. s) result self.new (reading.status self.old) }
     {
         status_of(self.field()?).ok_or(LineFault::NoEntry)
     }
 
+    /// A blank and `started`, `failed` or `ended`; else `NoEntry`.
     pub fn block_state(&mut self) -> Result<BlockState, LineFault>
         ensures { reading.Gives (λ s. s) result self.new (reading.block_state self.old) }
     {
         block_state_of(self.field()?).ok_or(LineFault::NoEntry)
     }
 
+    /// A blank and `keep`, or `out` or `in` with a blank and a number behind it; else `NoEntry`.
     pub fn decision(&mut self) -> Result<Decision, LineFault>
         ensures { reading.Gives (λ d. d) result self.new (reading.decision self.old) }
     {

@@ -22,6 +22,7 @@ use Rattle.flow_meaning.specs.Inputs.{Path, distinct}
 use Rattle.flow_meaning.specs.Meaning.{Done}
 use Rattle.flow_meaning.specs.Operators.{Layer}
 use Rattle.flow_meaning.specs.Sequential.{Tasks, outcome_at, value_in, failed, failed_among, futures_in, one_value, limited_outcome, unless_failed, all_values, join_value, join_outcome}
+use Rattle.body_requests.proofs.OwnExceptions.{IsOwn}
 use Rattle.call_rules.specs.Calls.{join_dry}
 use Rattle.call_rules.proofs.Tasks.{same-some}
 use Rattle.history_laws.specs.Tables.{status_of}
@@ -33,7 +34,6 @@ use Rattle.kernel_model.specs.Known.{Known, Life, path_at, life_at, status_at, s
 use Rattle.kernel_model.specs.Invariants.{Inv}
 use Rattle.kernel_model.specs.Limits.{passed, stored, IsRefusedFor}
 use Rattle.kernel_model.specs.Acts.{put, settled_as}
-use Rattle.kernel_model.specs.Turns.{IsJoinDone}
 use Rattle.kernel_model.proofs.Counting.{stored-settled_as}
 use Rattle.kernel_model.proofs.Passing.{passed-none, passed-stored}
 use Rattle.kernel_model.proofs.KeepingTasks.{keep-join-ended}
@@ -42,7 +42,7 @@ use Rattle.kernel_core.specs.Tasks.{life_of, runs}
 use Rattle.kernel_core.specs.Views.{IsSound}
 use Rattle.kernel_core.specs.declared.task.Task.{Task}
 use Rattle.kernel_core.specs.declared.run_state.MainStep.{MainStep}
-use Rattle.kernel_core.proofs.JoiningExceptions.{IsOwn, GivesOwn, join-own}
+use Rattle.kernel_core.proofs.JoiningExceptions.{GivesOwn, join-own}
 use Rattle.kernel_core.proofs.StateViews.{with, Keeps, Wrote, KnownTask, known-task, written-back, wrote}
 use Rattle.kernel_core.proofs.TaskActs.{with-record, ended-task, settled-record, unsettled, unsettled-there, path-is}
 
@@ -109,14 +109,6 @@ over-within w v tasks steps log k t view is at over = joining-known w tasks step
 -- its body ended so
 over_ran : (w : Known) (tasks : List Task) (k : ℕ) (t : Task) (ended : Ended) → KnownTask w tasks k t status.Joining → t.ran ≡ Some ended → (life_at w k).ran ≡ Some (result_of ended)
 over_ran w tasks k t ended known ran = ap (λ (l : Life). l.ran) known.life ∙ ap (option_map result_of) ran
-
--- a task whose body has not ended isn't over
-pub over-unran : (w v : Known) (tasks : List Task) (steps : List MainStep) (log : List Entry) (k : ℕ) (t : Task) → w ≡ v → w ≡ with w tasks steps log → t ≡ get_or tasks k t → IsOver v k → t.ran ≡ None → ⊥
-over-unran w v tasks steps log k t view is at over none =
-    let task = over-within w v tasks steps log k t view is at over in
-    let absent : (life_at v k).ran ≡ None = ap (λ (u : Known). (life_at u k).ran) (sym view) ∙ ap (λ (l : Life). l.ran) task.life ∙ ap (option_map result_of) none in
-    let some = over.done.ran in
-    absurd (cc)
 
 -- the outcome of a join that is over
 pub record Settles (w : Known) (k : ℕ) (outcome : Outcome) : Type 0 where

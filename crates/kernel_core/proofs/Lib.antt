@@ -16,7 +16,6 @@ pub mod RunReadings
 pub mod TurnsOfTasks
 pub mod StateViews
 pub mod TaskActs
-pub mod BodyExceptions
 pub mod Settling
 pub mod Opened
 pub mod LastEntry

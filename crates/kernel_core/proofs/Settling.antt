@@ -14,6 +14,7 @@ use Rattle.event_log.specs.declared.entry.Entry.TheVariants as entry
 use Rattle.flow_meaning.specs.Evaluations.{no_losses}
 use Rattle.flow_meaning.specs.Inputs.{Path}
 use Rattle.flow_meaning.specs.Sequential.{outcome_of, apply}
+use Rattle.body_requests.proofs.OwnBlocks.{EndsOwn, apply-own}
 use Rattle.call_rules.specs.Calls.{Begin, outcome_with}
 use Rattle.history_laws.specs.Tables.{status_of}
 use Rattle.stored_units.specs.declared.units.Limit.TheVariants as limit
@@ -34,7 +35,6 @@ use Rattle.kernel_core.specs.Turned.{AttemptIsOver}
 use Rattle.kernel_core.specs.Views.{IsSound}
 use Rattle.kernel_core.specs.declared.task.Task.{Task}
 use Rattle.kernel_core.specs.declared.run_state.MainStep.{MainStep}
-use Rattle.kernel_core.proofs.BodyExceptions.{EndsOwn, apply-own}
 use Rattle.kernel_core.proofs.StateViews.{with, Keeps, Wrote, KnownTask, known-task, log-pushed, wrote, sound-same}
 use Rattle.kernel_core.proofs.TaskActs.{with-record, settled-record, unsettled, unsettled-there, path-is}
 

@@ -1,9 +1,8 @@
 -- What the turns of tasks do.
-use Rattle.std.proofs.Common.{◌≡◌, ◌≢◌, ℕ, ◌+◌, ◌<◌, ◌≤◌, inl, inr, Bool, true, false, List, length, Option, Some, None, refl, sym, ◌∙◌, ap, subst, arith}
-use Rattle.std.specs.Prelude.{IsSome, IsTrue, ◌↔◌, if◌then◌else◌, slice_get, option_map}
+use Rattle.std.proofs.Common.{◌≡◌, ℕ, ◌+◌, ◌<◌, ◌≤◌, inl, inr, Bool, true, false, List, length, Option, Some, None, refl, sym, ◌∙◌, ap, subst, arith}
+use Rattle.std.specs.Prelude.{IsSome, if◌then◌else◌, slice_get}
 use Rattle.std.proofs.lemmas.Bool.{cases_lt}
 use Rattle.flow_base.specs.declared.value.Value.{Value}
-use Rattle.flow_base.specs.declared.outcome.Ended.{Ended}
 use Rattle.flow_base.specs.declared.outcome.Exception.{Exception}
 use Rattle.flow_base.specs.declared.outcome.Exception.TheVariants as x
 use Rattle.flow_base.specs.declared.outcome.Outcome.{Outcome}
@@ -15,15 +14,12 @@ use Rattle.flow_meaning.specs.Evaluations.{no_losses}
 use Rattle.dependency_graph.specs.declared.readiness.Readiness.{Readiness}
 use Rattle.dependency_graph.specs.declared.readiness.Readiness.TheVariants as readiness
 use Rattle.dependency_graph.specs.Readiness.{ready}
-use Rattle.call_rules.specs.Calls.{Fails, Attempts, awaited, begin_ready, begin_join, has_room, call_outcome, outcome_with}
-use Rattle.call_rules.specs.Groups.{AllKnown}
+use Rattle.call_rules.specs.Calls.{Fails, Attempts, begin_ready, begin_join, has_room, call_outcome, outcome_with}
 use Rattle.call_rules.proofs.Agreeing.{begin-attempts, runs-on}
-use Rattle.call_rules.proofs.Tasks.{same-some}
-use Rattle.join_apps.specs.Bodies.{result_of}
 use Rattle.kernel_model.specs.declared.answers.Refusal.{Refusal}
 use Rattle.kernel_model.specs.declared.answers.Refusal.TheVariants.{NoMemory, TaskLimit, StoreLimit}
 use Rattle.kernel_model.specs.Jobs.{JobView, DoneView}
-use Rattle.kernel_model.specs.Known.{Known, Life, call_at, path_at, life_at, status_at, known, begin_at, apps_in, has_ended}
+use Rattle.kernel_model.specs.Known.{Known, call_at, path_at, life_at, status_at, known, begin_at, apps_in, has_ended}
 use Rattle.kernel_model.specs.Invariants.{HasRun, IsReached, Inv}
 use Rattle.kernel_model.specs.Acts.{settled_as, launched}
 use Rattle.kernel_model.specs.Limits.{IsRefusedFor}
@@ -35,7 +31,6 @@ use Rattle.kernel_core.specs.declared.beginning.Beginning.TheVariants as beginni
 use Rattle.kernel_core.specs.declared.task.Task.{Task}
 use Rattle.kernel_core.specs.Jobs.{FitsApps}
 use Rattle.kernel_core.specs.Joins.{JoinEnds}
-use Rattle.kernel_core.specs.Tasks.{life_of}
 use Rattle.kernel_core.specs.Views.{IsFact}
 use Rattle.kernel_core.specs.Turned.{NoJoinDone, beginning_of, IsAttempt, BeginsWith}
 use Rattle.kernel_core.proofs.RunReadings.{Shows, begun-within}
@@ -83,25 +78,6 @@ pub launches-so : (w v : Known) (k : ℕ) → IsAttempt w k → v ≡ launched w
 launches-so w v k a after = after ∙ sym (ap (carried_out w k) a.begins)
 
 -- ---- joins that are done
-
-pub done-is : (w : Known) (k : ℕ) (t : Task) (ended : Ended) (answer : Bool) → life_at w k ≡ life_of t → t.ran ≡ Some ended → t.record.status ≡ status.Joining
-    → IsTrue answer ↔ AllKnown (known w) (awaited (result_of ended)) → IsTrue answer ↔ IsJoinDone w k
-done-is w k t ended answer life ran joining answers =
-    let result : (life_at w k).ran ≡ Some (result_of ended) = ap (λ (l : Life). l.ran) life ∙ ap (option_map result_of) ran in (
-      (λ yes. record { joining = ap (λ (l : Life). l.status) life ∙ joining; result = result_of ended; ran = result; awaited = answers.0 yes }),
-      (λ done. answers.1 (let same : done.result ≡ result_of ended = same-some done.result (result_of ended) (sym done.ran ∙ result) in subst (λ r. AllKnown (known w) (awaited r)) same done.awaited)),
-    )
-
--- a task whose body didn't run isn't one
-pub unran-not : (w : Known) (k : ℕ) (t : Task) → life_at w k ≡ life_of t → t.ran ≡ None → IsJoinDone w k → ⊥
-unran-not w k t life none done =
-    let absent : (life_at w k).ran ≡ None = ap (λ (l : Life). l.ran) life ∙ ap (option_map result_of) none in
-    let some = done.ran in
-    absurd (cc)
-
--- nor is one in another state
-pub other-not : (w : Known) (k : ℕ) (t : Task) → life_at w k ≡ life_of t → t.record.status ≢ status.Joining → IsJoinDone w k → ⊥
-other-not w k t life other done = other (ap (λ (l : Life). l.status) (sym life) ∙ done.joining)
 
 pub none-done : (w : Known) (ts : List Task) (n : ℕ) → Shows w ts → length ts ≤ n → ((k : ℕ) → k < n → IsJoinDone w k → ⊥) → NoJoinDone w
 none-done w ts n s all none k is =
