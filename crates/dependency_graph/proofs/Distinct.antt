@@ -2,6 +2,7 @@
 use Rattle.std.proofs.Common.{◌≡◌, ℕ, ◌+◌, ◌<◌, length, drop, get_or, Bool, true, false, not, cond, ◌&&◌, ◌||◌, List, [], ◌∷◌, ◌++◌, bytes_eq, refl, sym, ap, ◌∙◌, append_assoc, append-nil}
 use Rattle.std.specs.List.{filter, flat_map, list_all, list_any}
 use Rattle.std.proofs.lemmas.List.{drop_more}
+use Rattle.std.proofs.lemmas.List.Elements.{filter-append}
 use Rattle.std.proofs.lemmas.List.Folds.{list_any-append}
 use Rattle.std.proofs.lemmas.Slice.Eq.{bytes_eq-Decides}
 use Rattle.flow_base.specs.declared.value.Value.{Value, out-Value}
@@ -67,16 +68,58 @@ added_all-append : (seen ps qs : List Path) → added_all seen (ps ++ qs) ≡ ad
 added_all-append seen [] qs = refl
 added_all-append seen (p ∷ ps) qs = added_all-append (added seen p) ps qs
 
+-- what is added of one value more
+pub added_next : (F : Value → List Path) (seen next : List Path) (values : List Value) (all : List Path) (i : ℕ) (a : Value) → i < length values → a ≡ get_or values i a → next ≡ added_all seen (F a) →
+    added_all seen (flat_map F (drop i values)) ≡ all → added_all next (flat_map F (drop (i + 1) values)) ≡ all
+added_next F seen next values all i a short is took before =
+    let rest = drop (i + 1) values in
+    let here : drop i values ≡ a ∷ rest = drop_more values i a short ∙ ap (λ (v : Value). v ∷ rest) (sym is) in
+    ap (λ (ps : List Path). added_all ps (flat_map F rest)) took
+    ∙ sym (added_all-append seen (F a) (flat_map F rest))
+    ∙ ap (λ (vs : List Value). added_all seen (flat_map F vs)) (sym here)
+    ∙ before
+
 -- one argument more
 pub inputs_next : (seen next : List Path) (arguments : List Value) (i : ℕ) (a : Value) → i < length arguments → a ≡ get_or arguments i a → next ≡ added_all seen (paths_in (out-Value a)) →
     added_all seen (flat_map (λ v. paths_in (out-Value v)) (drop i arguments)) ≡ inputs arguments → added_all next (flat_map (λ v. paths_in (out-Value v)) (drop (i + 1) arguments)) ≡ inputs arguments
-inputs_next seen next arguments i a short is took before =
-    let rest = drop (i + 1) arguments in
-    let here : drop i arguments ≡ a ∷ rest = drop_more arguments i a short ∙ ap (λ (v : Value). v ∷ rest) (sym is) in
-    ap (λ (ps : List Path). added_all ps (flat_map (λ v. paths_in (out-Value v)) rest)) took
-    ∙ sym (added_all-append seen (paths_in (out-Value a)) (flat_map (λ v. paths_in (out-Value v)) rest))
-    ∙ ap (λ (vs : List Value). added_all seen (flat_map (λ v. paths_in (out-Value v)) vs)) (sym here)
-    ∙ before
+inputs_next seen next arguments i a = added_next (λ v. paths_in (out-Value v)) seen next arguments (inputs arguments) i a
+
+-- ---- those that pass a test
+
+dropped_too : (P : Path → Bool) (p q : Path) (e : Bool) → P p ≡ false → bytes_eq p q ≡ e → (not e && P q) ≡ P q
+dropped_too P p q true fails same = let is : p ≡ q = (bytes_eq-Decides p q).0 same in sym (ap P (sym is) ∙ fails)
+dropped_too P p q false fails same = refl
+
+both_ways : (a b : Bool) → (a && b) ≡ (b && a)
+both_ways true true = refl
+both_ways true false = refl
+both_ways false true = refl
+both_ways false false = refl
+
+distinct_front : (P : Path → Bool) (p : Path) (ps qs : List Path) (passes : Bool) → P p ≡ passes → distinct qs ≡ filter P (distinct ps) →
+    distinct (cond passes (p ∷ qs) qs) ≡ cond passes (p ∷ filter P (filter (other p) (distinct ps))) (filter P (filter (other p) (distinct ps)))
+distinct_front P p ps qs true is rest =
+    ap (λ (rs : List Path). p ∷ filter (other p) rs) rest
+    ∙ ap (λ (rs : List Path). p ∷ rs) (kept_both (other p) P (λ q. P q && other p q) (λ q. refl) (distinct ps) ∙ sym (kept_both P (other p) (λ q. P q && other p q) (λ q. both_ways (other p q) (P q)) (distinct ps)))
+distinct_front P p ps qs false is rest = rest ∙ sym (kept_both P (other p) P (λ q. dropped_too P p q (bytes_eq p q) is refl) (distinct ps))
+
+distinct_filter : (P : Path → Bool) (ps : List Path) → distinct (filter P ps) ≡ filter P (distinct ps)
+distinct_filter P [] = refl
+distinct_filter P (p ∷ ps) = distinct_front P p ps (filter P ps) (P p) refl (distinct_filter P ps)
+
+pub filter-each : (P : Path → Bool) (F : Value → List Path) (values : List Value) → filter P (flat_map F values) ≡ flat_map (λ v. filter P (F v)) values
+filter-each P F [] = refl
+filter-each P F (v ∷ vs) = filter-append P (F v) (flat_map F vs) ∙ ap (λ (ps : List Path). filter P (F v) ++ ps) (filter-each P F vs)
+
+-- the inputs that pass
+pub passed_added : (P : Path → Bool) (arguments : List Value) → added_all [] (flat_map (λ v. filter P (paths_in (out-Value v))) arguments) ≡ filter P (inputs arguments)
+unfolding inputs
+passed_added P arguments =
+    let all = flat_map (λ v. paths_in (out-Value v)) arguments in
+    ap (added_all []) (sym (filter-each P (λ v. paths_in (out-Value v)) arguments))
+    ∙ added_distinct [] (filter P all)
+    ∙ all_new (distinct (filter P all))
+    ∙ distinct_filter P all
 
 -- ---- a test of each path
 

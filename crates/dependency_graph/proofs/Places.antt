@@ -1,5 +1,6 @@
 -- A path is found at its place, and the task there.
 use Rattle.std.proofs.Common.{◌≡◌, ◌≢◌, ℕ, zero, suc, ◌+◌, ◌<◌, arith, Bool, true, false, not, cond, ◌||◌, if◌then◌else◌, nat_lt, List, [], ◌∷◌, ◌++◌, length, map, take, slice_get, Option, Some, None, is_some, option_map, bytes_eq, refl, sym, ap, ◌∙◌, subst, true≢false}
+use Rattle.std.specs.Prelude.{Result, Ok, Err, OnOk, is_err}
 use Rattle.std.proofs.lemmas.List.{take-map, map-append}
 use Rattle.std.proofs.lemmas.Option.{none-some}
 use Rattle.std.proofs.lemmas.Bool.Decides.{nat_tests}
@@ -11,6 +12,7 @@ use Rattle.indexmap.specs.IndexSet.{insert_key}
 use Rattle.flow_base.specs.declared.outcome.Outcome.{Outcome}
 use Rattle.flow_meaning.specs.Inputs.{Path}
 use Rattle.flow_meaning.specs.Sequential.{Task, outcome_at}
+use Rattle.dependency_graph.specs.Added.{added}
 use Rattle.dependency_graph.specs.Places.{place_in, AreDistinct, settled_by, task_at_place}
 
 equal : (p q : Path) → bytes_eq p q ≡ true → p ≡ q
@@ -188,3 +190,22 @@ module _ {K : Type 0} (numbers : K → Path) where
 
     pub first_ones : (new : List K) (count : ℕ) → new ≡ take count keys → map numbers new ≡ take count ps
     first_ones new count h = rw (h, ← is) (sym (take-map numbers count keys))
+
+-- ---- a path that may be among them
+
+among : (ps : List Path) (p : Path) → list_any (λ q. bytes_eq q p) ps ≡ list_any (bytes_eq p) ps
+among [] p = refl
+among (q ∷ qs) p = ap (λ first. first || list_any (λ r. bytes_eq r p) qs) (nat_list_eq_equiv.symm q p) ∙ ap (λ any. bytes_eq p q || any) (among qs p)
+
+is_added : (ps : List Path) (p : Path) (there : Bool) → there ≡ is_some (place_in ps p) → (if there then ps else ps ++ p ∷ []) ≡ added ps p
+is_added ps p there is = ap (λ any. if any then ps else ps ++ p ∷ []) (is ∙ sym (any_place ps p) ∙ sym (among ps p))
+
+pub added-there : (places paths ps : List Path) (p : Path) (found : Option ℕ) → places ≡ paths → paths ≡ ps → found ≡ place_in places p → true ≡ is_some found → ps ≡ added ps p
+added-there places paths ps p found same view at there =
+    is_added ps p true (there ∙ ap is_some at ∙ ap (λ qs. is_some (place_in qs p)) (same ∙ view))
+
+pub added-new : {T E : Type 0} (places paths new ps : List Path) (p q : Path) (found : Option ℕ) (pushed : Result T E) → places ≡ paths → paths ≡ ps → found ≡ place_in places p → false ≡ is_some found → q ≡ p
+    → false ≡ is_err pushed → OnOk pushed (new ≡ paths ++ q ∷ []) → new ≡ added ps p
+added-new places paths new ps p q found (Ok x) same view at none copied ok longer =
+    longer ∙ ap (λ qs. qs ++ q ∷ []) view ∙ ap (λ r. ps ++ r ∷ []) copied ∙ is_added ps p false (none ∙ ap is_some at ∙ ap (λ qs. is_some (place_in qs p)) (same ∙ view))
+added-new places paths new ps p q found (Err e) same view at none copied ok longer = absurd (true≢false (sym ok))

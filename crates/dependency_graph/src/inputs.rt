@@ -1,12 +1,12 @@
 //! The tasks that a call waits for.
 
-ghost use Rattle.std.specs.Prelude.{◌≡◌, IfOk, OnOk, bytes_eq};
-ghost use Rattle.std.specs.List.{list_any};
+ghost use Rattle.std.specs.Prelude.{◌≡◌, IfOk, OnOk};
 ghost use Rattle.flow_base.specs.declared.value.Value.{out-Value};
 ghost use Rattle.flow_meaning.specs.Inputs.{inputs, path_in, paths_in};
-ghost use Rattle.dependency_graph.specs.Added.{added, added_all};
+ghost use Rattle.dependency_graph.specs.Added.{added_all};
 
-use flow_base::{Path, Paths, Value};
+use crate::distinct_paths::DistinctPaths;
+use flow_base::{Paths, Value};
 use std::alloc::{AllocError, Global};
 
 /// The paths of the futures and outputs that stand directly in the arguments or in a list argument,
@@ -15,14 +15,18 @@ use std::alloc::{AllocError, Global};
 pub fn inputs_of(alloc: Global, arguments: &[Value]) -> Result<Paths, AllocError>
     ensures { IfOk result (λ paths. paths ≡ inputs arguments.now) }
 {
-    let mut paths = Paths::new(alloc);
+    let mut paths = DistinctPaths::new(alloc);
     for argument in arguments {
         add_argument(alloc, &mut paths, argument)?;
     }
-    Ok(paths)
+    Ok(paths.into_paths())
 }
 
-fn add_argument(alloc: Global, paths: &mut Paths, argument: &Value) -> Result<(), AllocError>
+fn add_argument(
+    alloc: Global,
+    paths: &mut DistinctPaths,
+    argument: &Value,
+) -> Result<(), AllocError>
     ensures { OnOk result (paths.new ≡ added_all paths.old (paths_in (out-Value argument.now))) }
 {
     match argument {
@@ -36,33 +40,12 @@ fn add_argument(alloc: Global, paths: &mut Paths, argument: &Value) -> Result<()
     }
 }
 
-fn add_item(alloc: Global, paths: &mut Paths, item: &Value) -> Result<(), AllocError>
+fn add_item(alloc: Global, paths: &mut DistinctPaths, item: &Value) -> Result<(), AllocError>
     ensures { OnOk result (paths.new ≡ added_all paths.old (path_in (out-Value item.now))) }
 {
     match item {
-        Value::Future { path, .. } => add(alloc, paths, path),
-        Value::Output { path, .. } => add(alloc, paths, path),
+        Value::Future { path, .. } => paths.add(alloc, path),
+        Value::Output { path, .. } => paths.add(alloc, path),
         _ => Ok(()),
     }
-}
-
-fn add(alloc: Global, paths: &mut Paths, path: &Path) -> Result<(), AllocError>
-    ensures { OnOk result (paths.new ≡ added paths.old path.now) }
-{
-    if is_among(paths.as_slice(), path) {
-        return Ok(());
-    }
-    paths.push(path.copy(alloc)?)?;
-    Ok(())
-}
-
-fn is_among(paths: &[Path], path: &Path) -> bool
-    ensures { result ≡ list_any (λ p. bytes_eq p path.now) paths.now }
-{
-    for p in paths {
-        if p.as_slice() == path.as_slice() {
-            return true;
-        }
-    }
-    false
 }

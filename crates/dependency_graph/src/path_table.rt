@@ -1,6 +1,6 @@
 //! Paths with their places.
 
-ghost use Rattle.std.specs.Prelude.{◌≡◌, ◌++◌, ◌∷◌, [], None, take, OnOk, OnErr};
+ghost use Rattle.std.specs.Prelude.{◌≡◌, ◌++◌, ◌∷◌, [], None, length, take, OnOk, OnErr};
 ghost use Rattle.dependency_graph.specs.Places.{place_in, AreDistinct};
 
 use flow_base::Path;
@@ -31,6 +31,13 @@ impl PathTable {
         PathTable {
             paths: IndexSet::new(alloc),
         }
+    }
+
+    /// How many paths there are.
+    pub fn len(&self) -> usize
+        ensures { result ≡ length self.now }
+    {
+        self.paths.len()
     }
 
     /// The place of a path, counted from 0, or none where it isn't there.

@@ -1,13 +1,23 @@
 //! What calls wait for, and what becomes of them.
 
-ghost use Rattle.std.specs.Prelude.{[], map};
+ghost use Rattle.std.specs.Prelude.{◌≡◌, true, [], ◌∷◌, if◌then◌else◌, map, Some, IfOk, OnOk, slice_set};
+ghost use Rattle.dependency_graph.specs.declared.callback.FutureState.TheVariants as state;
+ghost use Rattle.dependency_graph.specs.Callbacks.{is_open, state_in};
+ghost use Rattle.dependency_graph.specs.Graphs.{AreThere, CanAdd, with_task};
+ghost use Rattle.dependency_graph.specs.OutcomeStates.{state_of};
+ghost use Rattle.dependency_graph.specs.Places.{AreDistinct, place_in};
 
 use crate::{
-    Outcomes, Readiness, are_deep, inputs_of, is_resolved, is_settled_all, readiness_of, resolve,
+    Callback, Graph, Monitor, Outcomes, Readiness, Settlement, are_deep, inputs_of, is_resolved,
+    is_settled_all, readiness_of, resolve,
 };
-use flow_base::{Exception, FileOut, Files, Items, Outcome, Path, TaskEnd, TaskEnds, Text, Value};
+use flow_base::{
+    Exception, FileOut, Files, Items, Outcome, Path, Paths, TaskEnd, TaskEnds, Text, Value,
+};
+use sqlite_items::Items as ListOf;
 use std::alloc::{AllocError, Global};
 use std::test::Fail;
+use task_record::Status;
 
 #[derive(Drop)]
 struct Known {
@@ -27,7 +37,9 @@ impl Outcomes for Known {
     }
 }
 
-fn path(alloc: Global, number: u32) -> Result<Path, AllocError> {
+fn path(alloc: Global, number: u32) -> Result<Path, AllocError>
+    ensures { IfOk result (λ path. path ≡ number ∷ []) }
+{
     let mut path = Path::new(alloc);
     path.push(number)?;
     Ok(path)
@@ -194,5 +206,234 @@ fn the_first_rule_that_fits(rt: HostRuntime) -> Result<(), Fail> {
     ] {
         assert_eq!(rt; verdict(alloc, arguments.as_slice())?.as_str(), text);
     }
+    Ok(())
+}
+
+/// A monitor that keeps what it is told.
+#[derive(Drop)]
+struct Ledger {
+    alloc: Global,
+    settlements: ListOf<Settlement>,
+}
+
+impl Ledger {
+    fn new(alloc: Global) -> Ledger {
+        Ledger {
+            alloc,
+            settlements: ListOf::new(alloc),
+        }
+    }
+}
+
+impl Monitor for Ledger {
+    ghost told = { λ ledger. ledger.settlements };
+
+    fn settled(&mut self, settlement: &Settlement) -> Result<(), AllocError> {
+        let settlement = Settlement {
+            path: settlement.path.copy(self.alloc)?,
+            status: settlement.status,
+            outcome: settlement.outcome.copy(self.alloc)?,
+        };
+        self.settlements.push(settlement)
+    }
+}
+
+fn paths(alloc: Global, numbers: &[u32]) -> Result<Paths, AllocError>
+    ensures { IfOk result (λ paths. paths ≡ map (λ n. n ∷ []) numbers.now) }
+{
+    let mut paths = Paths::new(alloc);
+    for &number in numbers {
+        paths.push(path(alloc, number)?)?;
+    }
+    Ok(paths)
+}
+
+fn add(
+    alloc: Global,
+    graph: &mut Graph<Ledger>,
+    task: u32,
+    inputs: &[u32],
+) -> Result<(), AllocError>
+    requires { CanAdd graph.old (task ∷ []) (map (λ n. n ∷ []) inputs.now) }
+    ensures { OnOk result (graph.new ≡ with_task (task ∷ []) (map (λ n. n ∷ []) inputs.now) graph.old) }
+{
+    let path = path(alloc, task)?;
+    let inputs = paths(alloc, inputs)?;
+    graph.add(alloc, &path, inputs.as_slice())
+}
+
+/// Tasks 1 and 2 wait for 0, and 3 for both. Each task's path is its number.
+fn diamond(alloc: Global) -> Result<Graph<Ledger>, AllocError>
+    ensures paths { IfOk result (λ graph. graph.paths ≡ (0 ∷ []) ∷ (1 ∷ []) ∷ (2 ∷ []) ∷ (3 ∷ []) ∷ []) }
+    ensures states { IfOk result (λ graph. graph.callbacks.states ≡ state.Open ∷ state.Open ∷ state.Open ∷ state.Open ∷ []) }
+    ensures told { IfOk result (λ graph. graph.told ≡ []) }
+{
+    let mut graph = Graph::new(alloc);
+    add(alloc, &mut graph, 0, &[])?;
+    add(alloc, &mut graph, 1, &[0])?;
+    add(alloc, &mut graph, 2, &[0])?;
+    add(alloc, &mut graph, 3, &[1, 2])?;
+    Ok(graph)
+}
+
+fn next(graph: &mut Graph<Ledger>) -> Option<Callback>
+    ensures paths { graph.new.paths ≡ graph.old.paths }
+    ensures states { graph.new.callbacks.states ≡ graph.old.callbacks.states }
+{
+    graph.next_callback()
+}
+
+/// Writes what is to be done now.
+fn write_ready(
+    alloc: Global,
+    graph: &mut Graph<Ledger>,
+    text: &mut String,
+) -> Result<(), AllocError>
+    ensures paths { graph.new.paths ≡ graph.old.paths }
+    ensures states { graph.new.callbacks.states ≡ graph.old.callbacks.states }
+{
+    for _turn in 0..4 {
+        if let Some(callback) = next(graph) {
+            text.push_str(format!(in alloc; "{callback:?} ")?.as_str())?;
+        }
+    }
+    text.push_str("| ")
+}
+
+fn settlement(alloc: Global, task: u32, fails: bool) -> Result<Settlement, AllocError>
+    ensures path { IfOk result (λ s. s.path ≡ task ∷ []) }
+    ensures state { IfOk result (λ s. state_of s.outcome ≡ (if fails then state.Failed else state.Value)) }
+{
+    let path = path(alloc, task)?;
+    if fails {
+        return Ok(Settlement {
+            path,
+            status: Status::Failed,
+            outcome: Outcome::Failed(Exception::ZeroDivisionError),
+        });
+    }
+    Ok(Settlement {
+        path,
+        status: Status::ExecDone,
+        outcome: Outcome::Value {
+            value: Value::Int(7),
+            files: Files::new(alloc),
+        },
+    })
+}
+
+/// Settles a task, and writes what is to be done then.
+fn settle(
+    alloc: Global,
+    graph: &mut Graph<Ledger>,
+    task: u32,
+    fails: bool,
+    text: &mut String,
+) -> Result<(), AllocError>
+    requires is { place_in graph.old.paths (task ∷ []) ≡ Some task }
+    requires opened { is_open (state_in graph.old.callbacks.states task) ≡ true }
+    ensures paths { OnOk result (graph.new.paths ≡ graph.old.paths) }
+    ensures states { OnOk result (graph.new.callbacks.states ≡ slice_set graph.old.callbacks.states task (if fails then state.Failed else state.Value)) }
+{
+    let settlement = settlement(alloc, task, fails)?;
+    graph.settled(&settlement)?;
+    write_ready(alloc, graph, text)
+}
+
+/// What is to be done at first, and after each settlement, where task 2 may fail.
+fn ready_in_diamond(alloc: Global, fails: bool) -> Result<String, AllocError> {
+    let mut text = String::new(alloc);
+    let mut graph = diamond(alloc)?;
+    write_ready(alloc, &mut graph, &mut text)?;
+    settle(alloc, &mut graph, 0, false, &mut text)?;
+    settle(alloc, &mut graph, 2, fails, &mut text)?;
+    settle(alloc, &mut graph, 1, false, &mut text)?;
+    Ok(text)
+}
+
+#[test]
+fn callbacks_of_a_diamond(rt: HostRuntime) -> Result<(), Fail> {
+    for (fails, text) in [
+        (false, "Launch(0) | Launch(1) Launch(2) | | Launch(3) | "),
+        (true, "Launch(0) | Launch(1) Launch(2) | | DepFail(3) | "),
+    ] {
+        assert_eq!(rt; ready_in_diamond(rt.alloc(), fails)?.as_str(), text);
+    }
+    Ok(())
+}
+
+/// Stores the end of a task's join, and writes what is to be done then.
+fn wait_join(
+    alloc: Global,
+    graph: &mut Graph<Ledger>,
+    task: u32,
+    returned: &[u32],
+    text: &mut String,
+) -> Result<(), AllocError>
+    requires is { place_in graph.old.paths (task ∷ []) ≡ Some task }
+    requires there { AreThere graph.old.paths (map (λ n. n ∷ []) returned.now) }
+    requires distinct { AreDistinct (map (λ n. n ∷ []) returned.now) }
+    ensures paths { OnOk result (graph.new.paths ≡ graph.old.paths) }
+    ensures states { OnOk result (graph.new.callbacks.states ≡ graph.old.callbacks.states) }
+{
+    let path = path(alloc, task)?;
+    let returned = paths(alloc, returned)?;
+    graph.wait_join(alloc, &path, returned.as_slice())?;
+    write_ready(alloc, graph, text)
+}
+
+/// Task 0 waits for 1 and 2, and once more for none.
+fn ready_in_join(alloc: Global) -> Result<String, AllocError> {
+    let mut text = String::new(alloc);
+    let mut graph = diamond(alloc)?;
+    wait_join(alloc, &mut graph, 0, &[1, 2], &mut text)?;
+    settle(alloc, &mut graph, 1, true, &mut text)?;
+    settle(alloc, &mut graph, 2, false, &mut text)?;
+    wait_join(alloc, &mut graph, 0, &[], &mut text)?;
+    Ok(text)
+}
+
+#[test]
+fn the_end_of_a_join(rt: HostRuntime) -> Result<(), Fail> {
+    let text = "Launch(0) | | DepFail(3) JoinDone(0) | JoinDone(0) | ";
+    assert_eq!(rt; ready_in_join(rt.alloc())?.as_str(), text);
+    Ok(())
+}
+
+/// The tasks that a monitor was told of.
+fn write_told(alloc: Global, ledger: &Ledger, text: &mut String) -> Result<(), AllocError> {
+    for settlement in ledger.settlements.as_slice() {
+        for number in settlement.path.as_slice() {
+            text.push_str(format!(in alloc; "{number} ")?.as_str())?;
+        }
+    }
+    text.push_str("| ")
+}
+
+fn two_ledgers(alloc: Global) -> Result<Vec<Ledger>, AllocError> {
+    let mut ledgers = Vec::new(alloc);
+    ledgers.reserve(2)?;
+    ledgers.push_reserved(Ledger::new(alloc));
+    ledgers.push_reserved(Ledger::new(alloc));
+    Ok(ledgers)
+}
+
+/// What two monitors are told, where tasks 2 and 0 settle.
+fn told_to_two(alloc: Global) -> Result<String, AllocError> {
+    let mut graph = diamond(alloc)?;
+    graph.add_monitors(two_ledgers(alloc)?);
+    let mut ready = String::new(alloc);
+    settle(alloc, &mut graph, 2, false, &mut ready)?;
+    settle(alloc, &mut graph, 0, true, &mut ready)?;
+    let mut text = String::new(alloc);
+    for ledger in graph.into_monitors().as_slice() {
+        write_told(alloc, ledger, &mut text)?;
+    }
+    Ok(text)
+}
+
+#[test]
+fn each_monitor_is_told_once(rt: HostRuntime) -> Result<(), Fail> {
+    assert_eq!(rt; told_to_two(rt.alloc())?.as_str(), "2 0 | 2 0 | ");
     Ok(())
 }
