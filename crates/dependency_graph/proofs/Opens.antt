@@ -12,7 +12,7 @@ open-within [] n h = absurd (true≢false (sym h))
 open-within (s ∷ ss) zero h = omega arith
 open-within (s ∷ ss) (suc n) h = let below = open-within ss n h in omega (arith, below)
 
--- all are with_state exactly where none is open
+-- all are settled exactly where none is open
 pub settled-none : (ss : List FutureState) (ns : List ℕ) → all_settled ss ns ≡ nat_eq (open_in ss ns) 0
 settled-none ss [] = refl
 settled-none ss (n ∷ ns) = by (is_open (state_in ss n)) (settled-none ss ns)

@@ -41,7 +41,7 @@ module _ (after : ℕ → ℕ) where
       by-place d true same h here there = subst (λ (x : ℕ). count_at (lowered_at counts c) x ≡ after x) (sym (eqb-true d c same)) here
       by-place d false other h here there = there d (λ e. true≢false (sym (eq-eqb d c e) ∙ other)) ∙ mid.rest d (rw other h)
 
-  -- behind the pass each has_number what it is to have
+  -- behind the pass each has what it is to have
   pub lowered-counts : (cs counts : List ℕ) → AreDistinctNumbers cs → Midway after cs counts → (c : ℕ) → count_at (lowered cs counts) c ≡ after c
   lowered-counts [] counts apart mid c = mid.rest c refl
   lowered-counts (d ∷ cs) counts apart mid c = lowered-counts cs (lowered_at counts d) apart.1 (midway-next d cs counts apart.0 mid) c

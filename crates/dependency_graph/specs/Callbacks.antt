@@ -13,7 +13,7 @@ use Rattle.dependency_graph.specs.CallbackViews.{CallbackView}
 pub record Callbacks : Type 0 where
   -- the tasks' states, by place
   pub states : List FutureState
-  -- all callbacks, in the order in which they were with_stored
+  -- all callbacks, in the order in which they were stored
   pub waits : List CallbackView
   -- the numbers of those that became ready, in that order
   pub made : List ℕ

@@ -18,13 +18,13 @@ module _ {Z : Type 0} where
   abbrev pub rows_of : List (Vec ℕ Z) → List (List ℕ)
   rows_of rows = map vec_items rows
 
-  -- the row has_number room for one more
+  -- the row has room for one more
   abbrev pub RowHasRoom : List (Vec ℕ Z) → ℕ → Type 0
   RowHasRoom [] n = ⊥
   RowHasRoom (r ∷ rows) zero = vec_len r < vec_capacity r
   RowHasRoom (r ∷ rows) (suc n) = RowHasRoom rows n
 
-  -- each of these rows has_number
+  -- each of these rows has
   abbrev pub RowsHaveRoom : List (Vec ℕ Z) → List ℕ → Type 0
   RowsHaveRoom rows [] = Unit {0}
   RowsHaveRoom rows (n ∷ ns) = RowHasRoom rows n × RowsHaveRoom rows ns

@@ -1,18 +1,17 @@
 -- The futures of a list, as the inputs of a call and their values.
 use Rattle.std.proofs.Common.{◌≡◌, ◌&&◌, Bool, true, false, List, [], ◌∷◌, map, Option, Some, None, refl, ◌∙◌, ap}
-use Rattle.std.specs.Prelude.{◌↔◌, IsTrue, is_some}
+use Rattle.std.specs.Prelude.{is_some}
 use Rattle.std.specs.List.{list_all, flat_map}
 use Rattle.flow_base.specs.declared.value.Value.{Value, out-Value}
 use Rattle.flow_base.specs.declared.value.Value.TheOpen.{Value-F}
 use Rattle.flow_base.specs.declared.value.Value.TheVariants as v
 use Rattle.flow_base.specs.declared.outcome.Exception.TheVariants as x
 use Rattle.flow_base.specs.declared.outcome.Outcome.TheVariants as o
-use Rattle.flow_meaning.specs.Inputs.{Path, paths_in, inputs}
+use Rattle.flow_meaning.specs.Inputs.{Path, distinct, paths_in, inputs}
 use Rattle.flow_meaning.specs.Operators.{Layer}
 use Rattle.flow_meaning.specs.Sequential.{Tasks, outcome_at, value_in, replaced_in, resolved, future_in, with_front, futures_in, failed_among, unless_failed, limited_outcome, all_values}
 use Rattle.call_rules.specs.Calls.{paths_or_none}
-use Rattle.call_rules.specs.Groups.{AllKnown}
-use Rattle.join_apps.specs.Futures.{is_future, is_item_settled, are_settled}
+use Rattle.join_apps.specs.Futures.{is_future}
 
 module _ (ts : Tasks) where
   -- a future, as an input and by its value
@@ -21,10 +20,9 @@ module _ (ts : Tasks) where
     pub is : future_in l ≡ Some path
     pub input : paths_in l ≡ path ∷ []
     pub value : replaced_in ts whole l ≡ value_in (outcome_at ts path)
-    pub settled : is_item_settled ts l ≡ is_some (outcome_at ts path)
 
   one : (whole : Value) (l : Layer) → is_some (future_in l) ≡ true → One whole l
-  one whole (Value-F.Future path outputs) h = record { path = path; is = refl; input = refl; value = refl; settled = refl }
+  one whole (Value-F.Future path outputs) h = record { path = path; is = refl; input = refl; value = refl }
   one whole (Value-F.Int n) h = absurd (cc)
   one whole (Value-F.Text text) h = absurd (cc)
   one whole (Value-F.List vs) h = absurd (cc)
@@ -37,7 +35,6 @@ module _ (ts : Tasks) where
     pub are : futures_in vs ≡ Some paths
     pub inputs_are : flat_map (λ v. paths_in (out-Value v)) vs ≡ paths
     pub values_are : map (λ a. replaced_in ts a (out-Value a)) vs ≡ map (λ p. value_in (outcome_at ts p)) paths
-    pub settled_are : are_settled ts vs ≡ list_all (λ p. is_some (outcome_at ts p)) paths
 
   both : (a b : Bool) → (a && b) ≡ true → (a ≡ true) × (b ≡ true)
   both true true h = (refl, refl)
@@ -50,11 +47,10 @@ module _ (ts : Tasks) where
     are = rw (first.is, rest.are) refl;
     inputs_are = rw (first.input, rest.inputs_are) refl;
     values_are = rw (first.value, rest.values_are) refl;
-    settled_are = rw (first.settled, rest.settled_are) refl;
   }
 
   every : (vs : List Value) → list_all is_future vs ≡ true → Every vs
-  every [] h = record { paths = []; are = refl; inputs_are = refl; values_are = refl; settled_are = refl }
+  every [] h = record { paths = []; are = refl; inputs_are = refl; values_are = refl }
   every (v ∷ vs) h =
       let halves = both (is_future v) (list_all is_future vs) h in
       one_more v vs (one v (out-Value v) halves.0) (every vs halves.1)
@@ -82,24 +78,15 @@ module _ (ts : Tasks) where
   pub not_all : (vs : List Value) → list_all is_future vs ≡ false → all_values ts (futures_in vs) ≡ o.Failed x.TypeError
   not_all vs h = none_of (futures_in vs) (some_all vs ∙ h)
 
-  -- ---- whether they are settled
+  -- ---- what is waited for
 
-  known : (ps : List Path) → (IsTrue (list_all (λ p. is_some (outcome_at ts p)) ps) ↔ AllKnown ts ps)
-  known [] = (λ _. tt, λ _. refl)
-  known (p ∷ ps) =
-      let rest = known ps in (
-        λ h. let halves = both (is_some (outcome_at ts p)) (list_all (λ q. is_some (outcome_at ts q)) ps) h in (halves.0, rest.0 halves.1),
-        λ k. rw k.0 (rest.1 k.1),
-      )
+  pub all_awaited : (vs : List Value) → list_all is_future vs ≡ true → inputs vs ≡ distinct (paths_or_none (futures_in vs))
+  unfolding inputs
+  all_awaited vs h = let e = every vs h in rw (e.are, e.inputs_are) refl
 
-  pub all_waited : (vs : List Value) (b : Bool) → list_all is_future vs ≡ true → b ≡ are_settled ts vs → (IsTrue b ↔ AllKnown ts (paths_or_none (futures_in vs)))
-  all_waited vs b h is =
-      let e = every vs h in
-      rw (is, e.are, e.settled_are) (known e.paths)
+  no_paths : (given : Option (List Path)) → is_some given ≡ false → distinct (paths_or_none given) ≡ []
+  no_paths None h = refl
+  no_paths (Some ps) h = absurd (cc)
 
-  nothing_known : (given : Option (List Path)) → is_some given ≡ false → AllKnown ts (paths_or_none given)
-  nothing_known None h = tt
-  nothing_known (Some ps) h = absurd (cc)
-
-  pub none_waited : (vs : List Value) → list_all is_future vs ≡ false → (IsTrue true ↔ AllKnown ts (paths_or_none (futures_in vs)))
-  none_waited vs h = (λ _. nothing_known (futures_in vs) (some_all vs ∙ h), λ _. refl)
+  pub none_awaited : (vs : List Value) → list_all is_future vs ≡ false → distinct (paths_or_none (futures_in vs)) ≡ []
+  none_awaited vs h = no_paths (futures_in vs) (some_all vs ∙ h)

@@ -1,14 +1,14 @@
 //! The outcome of a join, by those of the futures that its body gave.
 
-ghost use Rattle.std.specs.Prelude.{◌≡◌, ◌↔◌, IfOk, IsTrue};
+ghost use Rattle.std.specs.Prelude.{◌≡◌, IfOk};
 ghost use Rattle.std.specs.List.{list_all};
 ghost use Rattle.std.specs.Option.{option_copied};
 ghost use Rattle.flow_base.specs.declared.value.Value.{out-Value};
 ghost use Rattle.flow_base.specs.declared.value.Value.TheVariants as v;
-ghost use Rattle.flow_meaning.specs.Inputs.{inputs};
+ghost use Rattle.flow_meaning.specs.Inputs.{distinct, inputs};
 ghost use Rattle.flow_meaning.specs.Sequential as sequential;
+ghost use Rattle.call_rules.specs.Calls as definition;
 ghost use Rattle.call_rules.specs.Calls.{awaited, paths_or_none};
-ghost use Rattle.call_rules.specs.Groups.{AllKnown};
 ghost use Rattle.join_apps.specs.Bodies.{result_of};
 ghost use Rattle.join_apps.specs.Futures as futures;
 
@@ -33,49 +33,40 @@ pub fn join_outcome<O: Outcomes>(
     }
 }
 
-/// Whether each future is settled that a join waits for whose body ended so: the one that it gave, or those of
-/// the list that it gave. Where it gave anything else, or raised an exception, it waits for none.
-pub fn awaits_nothing<O: Outcomes>(outcomes: &O, ended: &Ended) -> bool
-    ensures { IsTrue result ↔ AllKnown (O.tasks outcomes.now) (awaited (result_of ended.now)) }
+/// The tasks that a join waits for whose body ended so, each once: that of the future that it gave, or those of the
+/// list of futures that it gave. Where it gave anything else, or raised an exception, there are none.
+pub fn awaited_of(alloc: Global, ended: &Ended) -> Result<Paths, AllocError>
+    ensures { IfOk result (λ paths. paths ≡ distinct (awaited (result_of ended.now))) }
 {
     match ended {
-        Ended::Value { value, .. } => match value {
-            Value::Future { path, .. } => outcomes.outcome(path).is_some(),
-            Value::List(items) => is_list_settled(outcomes, items.as_slice()),
-            _ => true,
-        },
-        Ended::Raised(_) => true,
+        Ended::Value { value, .. } => awaited_in(alloc, value),
+        Ended::Raised(_) => Ok(Paths::new(alloc)),
     }
 }
 
-/// A list that holds anything but futures isn't waited for.
-fn is_list_settled<O: Outcomes>(outcomes: &O, items: &[Value]) -> bool
-    ensures { IsTrue result ↔ AllKnown (O.tasks outcomes.now) (paths_or_none (sequential.futures_in items.now)) }
+fn awaited_in(alloc: Global, value: &Value) -> Result<Paths, AllocError>
+    ensures { IfOk result (λ paths. paths ≡ distinct (definition.awaited_in (out-Value value.now))) }
+{
+    match value {
+        Value::Future { path, .. } => {
+            let mut paths = Paths::new(alloc);
+            paths.push(path.copy(alloc)?)?;
+            Ok(paths)
+        }
+        Value::List(items) => awaited_among(alloc, items.as_slice()),
+        _ => Ok(Paths::new(alloc)),
+    }
+}
+
+// A list that holds anything but futures isn't waited for.
+#[tactic(auto, using(crate::proofs::Futures::all_awaited, crate::proofs::Futures::none_awaited))]
+fn awaited_among(alloc: Global, items: &[Value]) -> Result<Paths, AllocError>
+    ensures { IfOk result (λ paths. paths ≡ distinct (paths_or_none (sequential.futures_in items.now))) }
 {
     if !are_futures(items) {
-        return true;
+        return Ok(Paths::new(alloc));
     }
-    are_settled(outcomes, items)
-}
-
-fn are_settled<O: Outcomes>(outcomes: &O, items: &[Value]) -> bool
-    ensures { result ≡ futures.are_settled (O.tasks outcomes.now) items.now }
-{
-    for item in items {
-        if !is_item_settled(outcomes, item) {
-            return false;
-        }
-    }
-    true
-}
-
-fn is_item_settled<O: Outcomes>(outcomes: &O, item: &Value) -> bool
-    ensures { result ≡ futures.is_item_settled (O.tasks outcomes.now) (out-Value item.now) }
-{
-    match item {
-        Value::Future { path, .. } => outcomes.outcome(path).is_some(),
-        _ => true,
-    }
+    inputs_of(alloc, items)
 }
 
 fn value_outcome<O: Outcomes>(

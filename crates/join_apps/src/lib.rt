@@ -6,4 +6,4 @@ mod body;
 mod joined;
 
 pub use body::{BodyFault, Calls, JoinBody, JoinCall, run_body};
-pub use joined::{awaits_nothing, join_outcome};
+pub use joined::{awaited_of, join_outcome};

@@ -1,5 +1,5 @@
 -- A turn that is taken refuses nothing, and one that is refused does nothing else.
-use Rattle.std.proofs.Common.{◌≡◌, Bool, true, false, List, [], ◌∷◌, Option, Some, None, is_some, refl, ◌∙◌, ap, subst}
+use Rattle.std.proofs.Common.{◌≡◌, Bool, true, false, List, [], ◌∷◌, Option, Some, None, is_some, refl, ◌∙◌, ap}
 use Rattle.std.proofs.lemmas.Bool.{or_parts}
 use Rattle.flow_base.specs.declared.value.Value.{out-Value}
 use Rattle.flow_base.specs.declared.outcome.Ending.{Ending}
@@ -13,10 +13,7 @@ use Rattle.flow_meaning.specs.Sequential.{outcome_at}
 use Rattle.history_laws.specs.Reads.{has_end}
 use Rattle.kernel_model.specs.declared.answers.Refusal.{Refusal}
 use Rattle.kernel_model.specs.Known.{Known, known, has_ended, main_left}
-use Rattle.kernel_model.specs.Acts.{refused}
-use Rattle.kernel_model.specs.Limits.{IsRefusedFor}
-use Rattle.kernel_model.specs.Turns.{unsettled_step, outcome_step, wait_step, request_step, act_step, unless_ended, script_step, CarriesOut}
-use Rattle.kernel_core.specs.Refused.{IsRefused}
+use Rattle.kernel_model.specs.Turns.{unsettled_step, outcome_step, wait_step, request_step, act_step, unless_ended, script_step}
 
 none : (r : Option Refusal) → is_some r ≡ false → r ≡ None
 none None h = refl
@@ -55,6 +52,3 @@ step-accepts w (Some ending) = refl
 
 pub accepts_script : (w v : Known) → has_ended w ≡ false → v ≡ (script_step w).1 → v.refusal ≡ None
 accepts_script w v going is = ap (λ (u : Known). u.refusal) is ∙ step-accepts w w.ending ∙ going_accepts w going
-
-pub callback-refused : (w s u v : Known) (refusal : Refusal) → s ≡ w → u ≡ s → v ≡ refused u refusal → IsRefusedFor (CarriesOut s) refusal → IsRefused w v (CarriesOut w) refusal
-callback-refused w s u v refusal is same after cause = subst (λ (x : Known). IsRefused x v (CarriesOut x) refusal) is (record { after = after ∙ ap (λ (x : Known). refused x refusal) same; cause = cause })

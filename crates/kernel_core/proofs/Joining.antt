@@ -31,7 +31,8 @@ use Rattle.kernel_model.proofs.Passing.{passed-none}
 use Rattle.kernel_core.specs.declared.task.Task.{Task}
 use Rattle.kernel_core.specs.declared.run_state.MainStep.{MainStep}
 use Rattle.kernel_core.specs.Joins.{AddsCalls, new_task, new_tasks, submission, submissions, task_paths}
-use Rattle.kernel_core.specs.Tasks.{call_of, life_of, AreOver, runs, running_in}
+use Rattle.kernel_core.specs.Tasks.{call_of, life_of, AreOver}
+use Rattle.agenda_model.specs.Agendas.{runs, running_in}
 use Rattle.kernel_core.specs.Views.{IsSound, IsIndexed}
 use Rattle.kernel_core.proofs.StateViews.{with, Keeps, Wrote, KnownTask, known-task, view-put, answers-push, acts-push, over-push, over-set, calls-set, lives-set, life-read, log-pushed, running-set, running-push, written-back}
 use Rattle.kernel_core.proofs.TaskActs.{unsettled, path-is, with-record}

@@ -18,6 +18,7 @@ use Rattle.flow_meaning.specs.Sequential.{Tasks}
 use Rattle.dependency_graph.specs.declared.readiness.Readiness.{Readiness}
 use Rattle.dependency_graph.specs.declared.readiness.Readiness.TheVariants as readiness
 use Rattle.dependency_graph.specs.Readiness.{ready}
+use Rattle.dependency_graph.specs.Graphs.{Graph}
 use Rattle.call_rules.specs.Calls.{Call, Dry, Attempts, Joins, begin, begin_ready, begin_join, has_room, join_dry}
 use Rattle.call_rules.proofs.Agreeing.{begin-joins, begin-room}
 use Rattle.stored_units.specs.Stored.{max_tasks, max_stored}
@@ -33,6 +34,7 @@ use Rattle.kernel_model.specs.Limits.{stored, units_of_call, IsRefusedFor}
 use Rattle.kernel_model.specs.Turns.{carried_out}
 use Rattle.kernel_model.proofs.Counting.{stored-joined, calls-joined}
 use Rattle.kernel_model.proofs.Passing.{passed-none, passed-tasks, passed-stored}
+use Rattle.agenda_model.specs.Storing.{CanStoreJoin, CanStoreJoinOf, IsJoinStored, with_join_run}
 use Rattle.kernel_core.specs.Joins.{CanRunJoin, AddsCalls}
 use Rattle.kernel_core.specs.Views.{IsFact}
 use Rattle.kernel_core.specs.Tasks.{call_of}
@@ -199,3 +201,29 @@ pub join-gives : (w v : Known) (tasks : List Task) (steps : List MainStep) (log 
 join-gives w v tasks steps log k values t tree path number given view is can at same is_path is_app runs =
     let r = reads-join w v tasks steps log k values t tree path number view is can at same is_path is_app in
     body-gives v k values tree path number given can r.tree_is r.path_is r.app_is runs
+
+-- its path, where the code reads it once more
+pub path-reads : (w v : Known) (tasks : List Task) (steps : List MainStep) (log : List Entry) (k : ℕ) (values : List Value) (t : Task) (path : Path) → w ≡ v → w ≡ with w tasks steps log → CanRunJoin v k values → t ≡ get_or tasks k t → path ≡ t.record.path → path ≡ path_at v k
+path-reads w v tasks steps log k values t path view is can at is_path =
+    is_path ∙ path-is w tasks k t status.Pending (join-within w v tasks steps log k t view is at can.callback.pending) ∙ ap (λ (u : Known). path_at u k) view
+
+-- ---- what is stored of it
+
+-- it may be stored
+pub ran-stores : (g : Graph) (w : Known) (k : ℕ) (values : List Value) (ended : Ended) (calls : List JoinCall) (path : Path) (slice : List JoinCall) → HasRun w k values ended calls → CanStoreJoinOf g w k values → path ≡ path_at w k → slice ≡ calls → CanStoreJoin g path (result_of ended, calls_of slice)
+ran-stores g w k values ended calls path slice ran can is_path are =
+    let here = subst (CanStoreJoin g (path_at w k)) (sym ran.gave) (can ran.can.app ran.can.begins) in
+    subst (λ (p : Path). CanStoreJoin g p (result_of ended, calls_of slice)) (sym is_path) (subst (λ (cs : List JoinCall). CanStoreJoin g (path_at w k) (result_of ended, calls_of cs)) (sym are) here)
+
+gave_of : (w : Known) (k : ℕ) (values : List Value) (ended : Ended) (calls : List JoinCall) (app : AppDef) → HasRun w k values ended calls → begin_at w k ≡ Joins app values → (result_of ended, calls_of calls) ≡ join_dry (apps_in w) (path_at w k) app values
+gave_of w k values ended calls app ran begins =
+    let one = ran.can.begins in
+    let same : ran.can.app ≡ app = cc in
+    ran.gave ∙ ap (λ (a : AppDef). join_dry (apps_in w) (path_at w k) a values) same
+
+-- and is
+pub ran-stored : (g after : Graph) (w : Known) (k : ℕ) (values : List Value) (ended : Ended) (calls : List JoinCall) (path : Path) (slice : List JoinCall) → HasRun w k values ended calls → path ≡ path_at w k → slice ≡ calls → after ≡ with_join_run path (result_of ended, calls_of slice) g → IsJoinStored g w k values after
+ran-stored g after w k values ended calls path slice ran is_path are stored app begins =
+    stored ∙ ap (λ (p : Path). with_join_run p (result_of ended, calls_of slice) g) is_path
+    ∙ ap (λ (cs : List JoinCall). with_join_run (path_at w k) (result_of ended, calls_of cs) g) are
+    ∙ ap (λ (d : Dry). with_join_run (path_at w k) d g) (gave_of w k values ended calls app ran begins)

@@ -1,11 +1,10 @@
 -- What the end of a join does to a state: its task settles by the outcomes of what its body returned.
-use Rattle.std.proofs.Common.{◌≡◌, ℕ, ◌+◌, ◌-◌, ◌^◌, ◌<◌, ◌≤◌, Bool, true, false, List, [], ◌∷◌, ◌++◌, length, Option, Some, None, IsTrue, get_or, set, refl, sym, ◌∙◌, ap, subst, arith}
+use Rattle.std.proofs.Common.{◌≡◌, ℕ, ◌+◌, ◌-◌, ◌^◌, ◌<◌, ◌≤◌, Bool, true, false, List, [], ◌∷◌, ◌++◌, Option, Some, None, IsTrue, get_or, set, refl, sym, ◌∙◌, ap, subst, arith}
 use Rattle.std.specs.Prelude.{Result, Ok, Err, if◌then◌else◌, option_map, min}
 use Rattle.std.proofs.lemmas.List.{set-set}
 use Rattle.flow_base.specs.Values.{fits}
 use Rattle.flow_base.specs.declared.value.Value.{Value, out-Value}
 use Rattle.flow_base.specs.declared.value.Value.TheOpen.{Value-F}
-use Rattle.flow_base.specs.declared.value.Value.TheVariants as v
 use Rattle.flow_base.specs.declared.outcome.Ended.{Ended}
 use Rattle.flow_base.specs.declared.outcome.Exception.{Exception}
 use Rattle.flow_base.specs.declared.outcome.Exception.TheVariants as x
@@ -18,33 +17,37 @@ use Rattle.task_record.specs.Transitions.{may_become}
 use Rattle.task_record.specs.States.{is_settled}
 use Rattle.event_log.specs.declared.entry.Entry.{Entry}
 use Rattle.event_log.specs.declared.entry.Entry.TheVariants as entry
+use Rattle.dependency_graph.specs.declared.monitor.Settlement.{Settlement}
+use Rattle.dependency_graph.specs.Graphs.{Graph, ToldSome}
+use Rattle.dependency_graph.specs.Monitors.{tell_first, ToldFirst}
 use Rattle.flow_meaning.specs.Inputs.{Path, distinct}
 use Rattle.flow_meaning.specs.Meaning.{Done}
 use Rattle.flow_meaning.specs.Operators.{Layer}
 use Rattle.flow_meaning.specs.Sequential.{Tasks, outcome_at, value_in, failed, failed_among, futures_in, one_value, limited_outcome, unless_failed, all_values, join_value, join_outcome}
 use Rattle.body_requests.proofs.OwnExceptions.{IsOwn}
-use Rattle.call_rules.specs.Calls.{join_dry}
 use Rattle.call_rules.proofs.Tasks.{same-some}
 use Rattle.history_laws.specs.Tables.{status_of}
 use Rattle.join_apps.specs.Bodies.{result_of}
 use Rattle.stored_units.specs.declared.units.Limit.TheVariants as limit
 use Rattle.stored_units.specs.Stored.{outcome_units, max_stored}
 use Rattle.kernel_model.specs.declared.answers.Refusal.TheVariants.{StoreLimit}
-use Rattle.kernel_model.specs.Known.{Known, Life, path_at, life_at, status_at, settled_outcome, known, apps_in}
+use Rattle.kernel_model.specs.Known.{Known, Life, path_at, life_at, status_at, known, apps_in}
 use Rattle.kernel_model.specs.Invariants.{Inv}
-use Rattle.kernel_model.specs.Limits.{passed, stored, IsRefusedFor}
-use Rattle.kernel_model.specs.Acts.{put, settled_as}
+use Rattle.kernel_model.specs.Limits.{passed, IsRefusedFor}
+use Rattle.kernel_model.specs.Acts.{put, settled_as, settlement_of}
+use Rattle.kernel_model.specs.Turns.{IsJoinDone}
 use Rattle.kernel_model.proofs.Counting.{stored-settled_as}
 use Rattle.kernel_model.proofs.Passing.{passed-none, passed-stored}
 use Rattle.kernel_model.proofs.KeepingTasks.{keep-join-ended}
 use Rattle.kernel_core.specs.Joins.{IsOver, JoinEnds}
-use Rattle.kernel_core.specs.Tasks.{life_of, runs}
+use Rattle.kernel_core.specs.Tasks.{life_of}
+use Rattle.agenda_model.specs.Agendas.{runs}
 use Rattle.kernel_core.specs.Views.{IsSound}
 use Rattle.kernel_core.specs.declared.task.Task.{Task}
 use Rattle.kernel_core.specs.declared.run_state.MainStep.{MainStep}
 use Rattle.kernel_core.proofs.JoiningExceptions.{GivesOwn, join-own}
 use Rattle.kernel_core.proofs.StateViews.{with, Keeps, Wrote, KnownTask, known-task, written-back, wrote}
-use Rattle.kernel_core.proofs.TaskActs.{with-record, ended-task, settled-record, unsettled, unsettled-there, path-is}
+use Rattle.kernel_core.proofs.TaskActs.{telling, with-record, ended-task, settled-record, unsettled, unsettled-there, path-is}
 
 -- ---- the state in which a join settles
 
@@ -106,6 +109,11 @@ joining-known w tasks steps log k t is at state = known-task w tasks steps log k
 pub over-within : (w v : Known) (tasks : List Task) (steps : List MainStep) (log : List Entry) (k : ℕ) (t : Task) → w ≡ v → w ≡ with w tasks steps log → t ≡ get_or tasks k t → IsOver v k → KnownTask w tasks k t status.Joining
 over-within w v tasks steps log k t view is at over = joining-known w tasks steps log k t is at (ap (λ (u : Known). status_at u k) view ∙ over.done.joining)
 
+-- the path of the record is the task's
+pub end-path : (w v : Known) (tasks : List Task) (steps : List MainStep) (log : List Entry) (k : ℕ) (u : Task) (path : Path) → w ≡ v → w ≡ with w tasks steps log → IsOver v k → u ≡ get_or tasks k u → path ≡ u.record.path → path ≡ path_at v k
+end-path w v tasks steps log k u path same is over at is_path =
+    is_path ∙ path-is w tasks k u status.Joining (over-within w v tasks steps log k u same is at over) ∙ ap (λ (u : Known). path_at u k) same
+
 -- its body ended so
 over_ran : (w : Known) (tasks : List Task) (k : ℕ) (t : Task) (ended : Ended) → KnownTask w tasks k t status.Joining → t.ran ≡ Some ended → (life_at w k).ran ≡ Some (result_of ended)
 over_ran w tasks k t ended known ran = ap (λ (l : Life). l.ran) known.life ∙ ap (option_map result_of) ran
@@ -130,6 +138,24 @@ settles_only w k outcome s done =
     let same : s.result ≡ done.result = same-some s.result done.result (sym s.ran ∙ done.ran) in
     ap (settled_as w k) (s.is ∙ ap (join_outcome (known w)) same)
 
+-- ---- what the graph is told
+
+-- the settlement is the join's
+pub end-tells : (w v : Known) (tasks : List Task) (steps : List MainStep) (log : List Entry) (k : ℕ) (u : Task) (path : Path) (outcome : Outcome) (state : Status) → w ≡ v → w ≡ with w tasks steps log → IsOver v k
+    → u ≡ get_or tasks k u → path ≡ u.record.path → Settles w k outcome → state ≡ status_of outcome
+    → (done : IsJoinDone v k) → telling path state outcome ≡ settlement_of v k (join_outcome (known v) done.result)
+end-tells w v tasks steps log k u path outcome state view is over at_u is_path s is_state done =
+    let here = end-path w v tasks steps log k u path view is over at_u is_path in
+    let same : s.result ≡ done.result = same-some s.result done.result (sym s.ran ∙ ap (λ (u : Known). (life_at u k).ran) view ∙ done.ran) in
+    let gives : outcome ≡ join_outcome (known v) done.result = s.is ∙ ap (λ (u : Known). join_outcome (known u) s.result) view ∙ ap (join_outcome (known v)) same in
+    rw (here, is_state, gives) refl
+
+-- the first monitors were told of it, where the graph gave up
+pub told-first : (s t : Settlement) (old new : Graph) → s ≡ t → ToldSome s old new → ToldFirst t old.told new.told
+told-first s t old new same some = record { count = some.count; is = ap (λ (g : Graph). g.told) some.is ∙ ap (λ (u : Settlement). tell_first some.count u old.told) same }
+
+-- ---- the state
+
 pub end-allowed : (w v : Known) (tasks : List Task) (steps : List MainStep) (log : List Entry) (k : ℕ) (t : Task) (outcome : Outcome) (state : Status) → w ≡ v → w ≡ with w tasks steps log → Inv w → IsOver v k
     → t ≡ get_or tasks k t → Settles w k outcome → state ≡ status_of outcome → IsTrue (is_settled state) × IsTrue (may_become t.record.status state)
 end-allowed w v tasks steps log k t outcome state view is inv over at s is_state =
@@ -153,7 +179,7 @@ past_sum most add u units is lt within = omega (arith, is, lt, within)
 
 -- ---- the act
 
-pub end-keeps : (w v : Known) (tasks : List Task) (steps : List MainStep) (log same_log log_after : List Entry) (running units add k : ℕ) (t u s : Task) (r : TaskRecord) (path : Path) (outcome : Outcome) (state : Status) → w ≡ v → Keeps w tasks steps log running units → IsOver v k
+pub end-keeps : (w v : Known) (tasks : List Task) (steps : List MainStep) (log same_log log_after : List Entry) (running units add k : ℕ) (t u s : Task) (r : TaskRecord) (path : Path) (outcome : Outcome) (state : Status) → w ≡ v → w.told ≡ [] → Keeps w tasks steps log running units → IsOver v k
     → t ≡ get_or tasks k t → r ≡ settled-record t.record state
     → u ≡ get_or tasks k u → path ≡ u.record.path
     → s ≡ get_or (set tasks k (with-record t r)) k s
@@ -161,7 +187,7 @@ pub end-keeps : (w v : Known) (tasks : List Task) (steps : List MainStep) (log s
     → add ≡ min (outcome_units outcome) (2 ^ 64 - 1) → add ≤ max_stored - units
     → same_log ≡ log → log_after ≡ same_log ++ entry.Settled path state ∷ []
     → Wrote w (settled_as v k outcome) (set (set tasks k (with-record t r)) k (ended-task s outcome)) steps log_after running (units + add)
-end-keeps w v tasks steps log same_log log_after running units add k t u s r path outcome state view keeps over at is_r at_u is_path at_s settling is_state is_add small same after =
+end-keeps w v tasks steps log same_log log_after running units add k t u s r path outcome state view untold keeps over at is_r at_u is_path at_s settling is_state is_add small same after =
     let before = subst (λ (u : Known). IsOver u k) (sym view) over in
     let inv = keeps.sound.fact.inv in
     let task = joining-known w tasks steps log k t keeps.is at before.done.joining in
@@ -174,7 +200,7 @@ end-keeps w v tasks steps log same_log log_after running units add k t u s r pat
     let idle : runs t.record.status ≡ 0 = ap runs task.state in
     let rests : runs state ≡ 0 = rw (is_state, settling.is) (join-state (λ q. runs q ≡ 0) refl refl w k settling.result inv settling.ran) in
     let out : runs s.record.status ≡ 0 = ap (λ (r : TaskRecord). runs r.status) (of_record ∙ is_r) ∙ rests in
-    let is : put w k (life_of (ended-task s outcome)) (entry.Settled path state) ≡ settled_as w k outcome = rw (of_record, of_body, is_r, here, is_state, task.life) refl in
+    let is : put w k (life_of (ended-task s outcome)) (entry.Settled path state) ≡ settled_as w k outcome = rw (of_record, of_body, is_r, here, is_state, task.life, untold) refl in
     let result : settling.result ≡ before.done.result = same-some settling.result before.done.result (sym settling.ran ∙ before.done.ran) in
     let kept = keep-join-ended w k outcome inv (record { not_ended = before.not_ended; done = before.done; is = settling.is ∙ ap (join_outcome (known w)) result }) in
     let sum = stored-settled_as w k outcome task.lived none in

@@ -23,3 +23,8 @@ pub mod Joining
 pub mod JoiningExceptions
 pub mod JoiningEnds
 pub mod JoiningBodies
+pub mod Serving
+pub mod CarriedOut
+pub mod Turning
+pub mod NoneGiven
+pub mod TurnsTold

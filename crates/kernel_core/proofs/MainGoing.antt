@@ -1,7 +1,9 @@
 -- How main's walk follows what is known, from one turn to the next.
 use Rattle.std.proofs.Common.{◌≡◌, ℕ, suc, ◌+◌, ◌-◌, ◌<◌, Bool, true, false, not, List, [], ◌∷◌, ◌++◌, length, Option, Some, None, is_some, refl, sym, ◌∙◌, ap, subst, arith}
+use Rattle.std.specs.Prelude.{Result, IfErr}
 use Rattle.std.proofs.lemmas.List.{length-append}
 use Rattle.flow_base.specs.declared.value.Value.{Value, out-Value}
+use Rattle.flow_base.specs.declared.outcome.Ending.{Ending}
 use Rattle.flow_base.specs.declared.outcome.Outcome.{Outcome}
 use Rattle.script_tree.specs.Grammar.{Tree}
 use Rattle.flow_meaning.specs.declared.walk.Request.{Request}
@@ -14,12 +16,15 @@ use Rattle.flow_meaning.specs.Sequential.{outcome_at}
 use Rattle.flow_meaning.specs.Walk.{main_act}
 use Rattle.app_eval.specs.declared.running.Want.TheVariants as want
 use Rattle.app_eval.specs.Walks.{first_want}
+use Rattle.kernel_model.specs.declared.answers.Refusal.{Refusal}
+use Rattle.kernel_model.specs.declared.answers.ScriptTurn.{ScriptTurn}
 use Rattle.kernel_model.specs.declared.answers.ScriptTurn.TheVariants as turn
 use Rattle.kernel_model.specs.Known.{Known, path_at, settled_outcome, known, main_left, has_ended}
 use Rattle.kernel_model.specs.Acts.{waited, arrived_at}
 use Rattle.kernel_model.specs.Conditions.{MainAsks}
 use Rattle.kernel_model.specs.Invariants.{Inv}
-use Rattle.kernel_model.specs.Turns.{unsettled_step, outcome_step, wait_step, request_step}
+use Rattle.kernel_model.specs.Limits.{IsRefusedFor}
+use Rattle.kernel_model.specs.Turns.{Step, unsettled_step, outcome_step, wait_step, request_step, act_step, unless_ended, script_step}
 use Rattle.kernel_model.proofs.KeepingMain.{after-more}
 use Rattle.kernel_model.proofs.Places.{known-at}
 use Rattle.kernel_core.specs.declared.main_walk.MainWalk.{MainWalk}
@@ -117,3 +122,14 @@ value-wait-of w f k is = waits_of w (request.WaitValue f) f k refl is
 
 pub name-wait-of : (w : Known) (f : Value) (k : ℕ) → IsOfCall w f k → IsWaitOf w (request.WaitName f) k
 name-wait-of w f k is = waits_of w (request.WaitName f) f k refl is
+
+-- ---- a turn that asks
+
+script_asks : (w u : Known) (wanted : Request) → u ≡ w → MainAsks u wanted → script_step w ≡ request_step u wanted
+script_asks w u wanted same asks =
+    ap script_step (sym same)
+    ∙ ap (λ (e : Option Ending). unless_ended e u (act_step u (main_left u))) asks.going
+    ∙ ap (act_step u) asks.left
+
+pub asked-refused : (w u : Known) (wanted : Request) (result : Result ScriptTurn Refusal) → u ≡ w → MainAsks u wanted → IfErr result (IsRefusedFor (λ v. v ≡ (request_step u wanted).1)) → IfErr result (IsRefusedFor (λ v. v ≡ (script_step w).1))
+asked-refused w u wanted result same asks h = subst (λ (step : Step). IfErr result (IsRefusedFor (λ v. v ≡ step.1))) (sym (script_asks w u wanted same asks)) h

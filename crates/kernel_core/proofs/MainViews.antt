@@ -18,7 +18,8 @@ use Rattle.kernel_model.proofs.Places.{outcome-pushed}
 use Rattle.kernel_core.specs.declared.task.Task.{Task}
 use Rattle.kernel_core.specs.declared.run_state.MainStep.{MainStep}
 use Rattle.kernel_core.specs.declared.run_state.MainStep.TheVariants as step
-use Rattle.kernel_core.specs.Tasks.{call_of, life_of, answer_of, acts_of, AreOver, running_in, runs}
+use Rattle.kernel_core.specs.Tasks.{call_of, life_of, answer_of, acts_of, AreOver}
+use Rattle.agenda_model.specs.Agendas.{running_in, runs}
 use Rattle.kernel_core.specs.Views.{known_with}
 
 -- ---- steps where a call is added

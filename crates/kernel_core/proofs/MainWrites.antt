@@ -32,7 +32,8 @@ use Rattle.kernel_core.specs.MainTurns.{CanWait, AddsCall, IsWaited}
 use Rattle.kernel_core.specs.declared.task.Task.{Task}
 use Rattle.kernel_core.specs.declared.run_state.MainStep.{MainStep}
 use Rattle.kernel_core.specs.declared.run_state.MainStep.TheVariants as step
-use Rattle.kernel_core.specs.Tasks.{call_of, life_of, AreOver, running_in}
+use Rattle.kernel_core.specs.Tasks.{call_of, life_of, AreOver}
+use Rattle.agenda_model.specs.Agendas.{running_in}
 use Rattle.kernel_core.specs.Views.{known_with, IsFact, IsSound, IsIndexed}
 use Rattle.kernel_core.proofs.MainSound.{units-fit, fact-stored, fact-printed, fact-checkpointed, fact-waited, fact-arrived, fact-main-ended, fact-called}
 use Rattle.kernel_core.proofs.PathTables.{next-nowhere, indexed-called}

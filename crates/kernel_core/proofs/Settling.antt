@@ -1,6 +1,7 @@
 -- What settling a task by the end of its attempt does to a state, and the end of a run.
-use Rattle.std.proofs.Common.{◌≡◌, ℕ, ◌+◌, ◌-◌, ◌^◌, ◌<◌, ◌≤◌, List, [], ◌∷◌, ◌++◌, Some, None, IsTrue, get_or, set, refl, sym, ◌∙◌, ap, subst, arith}
+use Rattle.std.proofs.Common.{◌≡◌, ℕ, ◌+◌, ◌-◌, ◌^◌, ◌<◌, ◌≤◌, List, [], ◌∷◌, ◌++◌, Option, Some, None, IsTrue, get_or, set, refl, sym, ◌∙◌, ap, subst, arith}
 use Rattle.std.specs.Prelude.{min}
+use Rattle.std.proofs.lemmas.List.{set-get_or}
 use Rattle.flow_base.specs.declared.outcome.Exception.TheVariants as x
 use Rattle.flow_base.specs.declared.outcome.Ended.{Ended}
 use Rattle.flow_base.specs.declared.outcome.Ended.TheVariants as ended
@@ -23,20 +24,21 @@ use Rattle.kernel_model.specs.declared.answers.Refusal.TheVariants.{StoreLimit}
 use Rattle.kernel_model.specs.Known.{Known, Life, call_at, path_at, life_at, status_at, known, apps_in}
 use Rattle.kernel_model.specs.Invariants.{HasRun, Inv}
 use Rattle.kernel_model.specs.Limits.{passed, IsRefusedFor}
-use Rattle.kernel_model.specs.Acts.{put, settled_as, over}
+use Rattle.kernel_model.specs.Acts.{put, settled_as, settlement_of, over}
 use Rattle.kernel_model.specs.Turns.{Settles}
 use Rattle.kernel_model.specs.Conditions.{CanEnd}
 use Rattle.kernel_model.proofs.Counting.{stored-settled_as}
 use Rattle.kernel_model.proofs.Passing.{passed-none, passed-stored}
 use Rattle.kernel_model.proofs.KeepingTasks.{keep-settled}
 use Rattle.kernel_model.proofs.KeepingEnd.{keep-over}
-use Rattle.kernel_core.specs.Tasks.{life_of, runs}
+use Rattle.kernel_core.specs.Tasks.{life_of}
+use Rattle.agenda_model.specs.Agendas.{runs}
 use Rattle.kernel_core.specs.Turned.{AttemptIsOver}
 use Rattle.kernel_core.specs.Views.{IsSound}
 use Rattle.kernel_core.specs.declared.task.Task.{Task}
 use Rattle.kernel_core.specs.declared.run_state.MainStep.{MainStep}
 use Rattle.kernel_core.proofs.StateViews.{with, Keeps, Wrote, KnownTask, known-task, log-pushed, wrote, sound-same}
-use Rattle.kernel_core.proofs.TaskActs.{with-record, settled-record, unsettled, unsettled-there, path-is}
+use Rattle.kernel_core.proofs.TaskActs.{telling, with-record, settled-record, unsettled, unsettled-there, path-is}
 
 -- ---- the state in which an attempt's end settles its task
 
@@ -77,6 +79,12 @@ settle-allowed w v tasks steps log running units k t u outcome state same keeps 
     let ends = ap (λ (l : Life). l.end) also.life ∙ end in
     rw (known.state, is_state) (attempt-state (λ s. IsTrue (may_become status.RunningEnded s)) refl refl w k outcome keeps.sound.fact.inv is ends)
 
+-- the path of the record is the task's
+pub settle-path : (w v : Known) (tasks : List Task) (steps : List MainStep) (log : List Entry) (k : ℕ) (u : Task) (path : Path) → w ≡ v → w ≡ with w tasks steps log → AttemptIsOver v k → u ≡ get_or tasks k u → path ≡ u.record.path → path ≡ path_at v k
+settle-path w v tasks steps log k u path same is over at is_path =
+    let known = over-known w tasks steps log k u is at (ap (λ (u : Known). status_at u k) same ∙ over.over) in
+    is_path ∙ path-is w tasks k u status.RunningEnded known ∙ ap (λ (u : Known). path_at u k) same
+
 -- there is one end
 pub settle-found : (w v : Known) (tasks : List Task) (steps : List MainStep) (log : List Entry) (running units k : ℕ) (u : Task) (found outcome : Outcome) → w ≡ v → Keeps w tasks steps log running units → AttemptIsOver v k → u ≡ get_or tasks k u → u.end ≡ Some found → (life_at v k).end ≡ Some outcome → found ≡ outcome
 settle-found w v tasks steps log running units k u found outcome same keeps over at_u end ends =
@@ -84,6 +92,29 @@ settle-found w v tasks steps log running units k u found outcome same keeps over
     let known = over-known w tasks steps log k u keeps.is at_u is in
     let one : Some found ≡ Some outcome = sym end ∙ ap (λ (l : Life). l.end) (sym known.life) ∙ ap (λ (u : Known). (life_at u k).end) same ∙ ends in
     cc
+
+-- the end of its attempt is the one that the task keeps
+pub settle-end : (w v : Known) (tasks : List Task) (steps : List MainStep) (log : List Entry) (k : ℕ) (t : Task) (outcome : Outcome) → w ≡ v → w ≡ with w tasks steps log → AttemptIsOver v k → t ≡ get_or tasks k t → (life_at v k).end ≡ Some outcome → t.end ≡ Some outcome
+settle-end w v tasks steps log k t outcome same is over at ends =
+    let known = over-known w tasks steps log k t is at (ap (λ (u : Known). status_at u k) same ∙ over.over) in
+    ap (λ (l : Life). l.end) (sym known.life) ∙ ap (λ (u : Known). (life_at u k).end) same ∙ ends
+
+-- ---- what the graph is told
+
+-- an end that is written as it was changes no task
+pub end-same : (tasks : List Task) (k : ℕ) (t : Task) (end : Option Outcome) → t ≡ get_or tasks k t → end ≡ t.end → set tasks k (record { «record» = t.record; end = end; ran = t.ran }) ≡ tasks
+end-same tasks k t end at same = rw same (ap (set tasks k) at ∙ set-get_or tasks k t)
+
+-- the settlement is the task's
+pub settle-tells : (w v : Known) (tasks : List Task) (steps : List MainStep) (log : List Entry) (running units k : ℕ) (u s : Task) (path : Path) (found outcome : Outcome) (state : Status) → w ≡ v → Keeps w tasks steps log running units → AttemptIsOver v k
+    → s ≡ get_or tasks k s → path ≡ s.record.path
+    → u ≡ get_or tasks k u → u.end ≡ Some found
+    → state ≡ status_of found → (life_at v k).end ≡ Some outcome
+    → telling path state outcome ≡ settlement_of v k outcome
+settle-tells w v tasks steps log running units k u s path found outcome state view keeps over at_s is_path at_u end is_state ends =
+    let here = settle-path w v tasks steps log k s path view keeps.is over at_s is_path in
+    let same = settle-found w v tasks steps log running units k u found outcome view keeps over at_u end ends in
+    rw (here, is_state, same) refl
 
 -- ---- units
 
@@ -102,7 +133,7 @@ past-sum most add u units is lt within = omega (arith, is, lt, within)
 
 -- ---- the act
 
-pub settle-keeps : (w v : Known) (tasks : List Task) (steps : List MainStep) (log same_log log_after : List Entry) (running units add k : ℕ) (t u s : Task) (r : TaskRecord) (path : Path) (outcome : Outcome) (state : Status) → w ≡ v → Keeps w tasks steps log running units → AttemptIsOver v k
+pub settle-keeps : (w v : Known) (tasks : List Task) (steps : List MainStep) (log same_log log_after : List Entry) (running units add k : ℕ) (t u s : Task) (r : TaskRecord) (path : Path) (outcome : Outcome) (state : Status) → w ≡ v → w.told ≡ [] → Keeps w tasks steps log running units → AttemptIsOver v k
     → t ≡ get_or tasks k t → r ≡ settled-record t.record state
     → s ≡ get_or tasks k s → path ≡ s.record.path
     → u ≡ get_or tasks k u → u.end ≡ Some outcome
@@ -110,7 +141,7 @@ pub settle-keeps : (w v : Known) (tasks : List Task) (steps : List MainStep) (lo
     → add ≡ min (outcome_units outcome) (2 ^ 64 - 1) → add ≤ max_stored - units
     → same_log ≡ log → log_after ≡ same_log ++ entry.Settled path state ∷ []
     → Wrote w (settled_as v k outcome) (set tasks k (with-record t r)) steps log_after running (units + add)
-settle-keeps w v tasks steps log same_log log_after running units add k t u s r path outcome state view keeps over at is_r at_s is_path at_u end is_state is_add small same after =
+settle-keeps w v tasks steps log same_log log_after running units add k t u s r path outcome state view untold keeps over at is_r at_s is_path at_u end is_state is_add small same after =
     let not_ended = subst (λ (u : Known). AttemptIsOver u k) (sym view) over in
     let is_over : status_at w k ≡ status.RunningEnded = not_ended.over in
     let known = over-known w tasks steps log k t keeps.is at is_over in
@@ -123,7 +154,7 @@ settle-keeps w v tasks steps log same_log log_after running units add k t u s r 
     let idle : runs t.record.status ≡ 0 = ap runs known.state in
     let rests : runs state ≡ 0 = rw is_state (attempt-state (λ s. runs s ≡ 0) refl refl w k outcome keeps.sound.fact.inv is_over ends) in
     let out : runs r.status ≡ 0 = ap (λ (r : TaskRecord). runs r.status) is_r ∙ rests in
-    let is : put w k (life_of (with-record t r)) (entry.Settled path state) ≡ settled_as w k outcome = rw (is_r, here, is_state, known.life, of_task) refl in
+    let is : put w k (life_of (with-record t r)) (entry.Settled path state) ≡ settled_as w k outcome = rw (is_r, here, is_state, known.life, of_task, untold) refl in
     let inv = keep-settled w k outcome keeps.sound.fact.inv (record { not_ended = not_ended.not_ended; over = is_over; is = ends }) in
     let sum = stored-settled_as w k outcome known.lived none in
     let are = keeps.sound.units_are in
@@ -136,6 +167,19 @@ settle-keeps w v tasks steps log same_log log_after running units add k t u s r 
     (wrote w (settled_as w k outcome) tasks steps log same_log log_after running running units (units + add) k t (with-record t r) (entry.Settled path state) keeps known.within at
     (rw is_r refl) (unsettled t status.RunningEnded known.state refl) (omega (arith, idle, out)) same after
     is inv within (omega (arith, sum, are, exact)))
+
+-- the same where the end was written as it was before
+pub settle-writes : (w v : Known) (tasks written : List Task) (steps : List MainStep) (log same_log log_after : List Entry) (running units add k : ℕ) (t u s : Task) (r : TaskRecord) (path : Path) (outcome : Outcome) (state : Status) → w ≡ v → w.told ≡ [] → written ≡ tasks → Keeps w tasks steps log running units → AttemptIsOver v k
+    → t ≡ get_or written k t → r ≡ settled-record t.record state
+    → s ≡ get_or tasks k s → path ≡ s.record.path
+    → u ≡ get_or tasks k u → u.end ≡ Some outcome
+    → state ≡ status_of outcome
+    → add ≡ min (outcome_units outcome) (2 ^ 64 - 1) → add ≤ max_stored - units
+    → same_log ≡ log → log_after ≡ same_log ++ entry.Settled path state ∷ []
+    → Wrote w (settled_as v k outcome) (set written k (with-record t r)) steps log_after running (units + add)
+settle-writes w v tasks written steps log same_log log_after running units add k t u s r path outcome state view untold as_before keeps over at is_r at_s is_path at_u end is_state is_add small same after =
+    subst (λ (ts : List Task). Wrote w (settled_as v k outcome) (set ts k (with-record t r)) steps log_after running (units + add)) (sym as_before)
+    (settle-keeps w v tasks steps log same_log log_after running units add k t u s r path outcome state view untold keeps over (subst (λ (ts : List Task). t ≡ get_or ts k t) as_before at) is_r at_s is_path at_u end is_state is_add small same after)
 
 -- past the limit it is refused
 pub settle-refused : (w v : Known) (tasks : List Task) (steps : List MainStep) (log : List Entry) (running units add k : ℕ) (u : Task) (outcome : Outcome) → w ≡ v → Keeps w tasks steps log running units → AttemptIsOver v k

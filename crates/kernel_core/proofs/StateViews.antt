@@ -18,7 +18,8 @@ use Rattle.kernel_model.specs.Invariants.{Inv}
 use Rattle.kernel_model.specs.Limits.{passed, stored}
 use Rattle.kernel_model.proofs.Passing.{passed-stays}
 use Rattle.kernel_model.proofs.Places.{outcome-pushed, length-pushed}
-use Rattle.kernel_core.specs.Tasks.{call_of, life_of, answer_of, acts_of, AreOver, runs, running_in}
+use Rattle.kernel_core.specs.Tasks.{call_of, life_of, answer_of, acts_of, AreOver}
+use Rattle.agenda_model.specs.Agendas.{runs, running_in}
 use Rattle.kernel_core.specs.Views.{IsFact, IsSound, IsIndexed}
 use Rattle.kernel_core.specs.declared.task.Task.{Task}
 use Rattle.kernel_core.specs.declared.run_state.MainStep.{MainStep}

@@ -12,6 +12,7 @@ use Rattle.task_record.specs.Tasks.{Task as TaskRecord}
 use Rattle.task_record.specs.Transitions.{may_become}
 use Rattle.event_log.specs.declared.entry.Entry.{Entry}
 use Rattle.event_log.specs.declared.entry.Entry.TheVariants as entry
+use Rattle.dependency_graph.specs.declared.monitor.Settlement.{Settlement}
 use Rattle.flow_meaning.specs.Inputs.{Path}
 use Rattle.call_rules.specs.Calls.{Call}
 use Rattle.history_laws.specs.Tables.{status_of}
@@ -22,7 +23,8 @@ use Rattle.kernel_model.specs.Conditions.{CanLaunch, CanStart, CanFinish, CanFai
 use Rattle.kernel_model.proofs.Counting.{stored-launched, stored-started, stored-finished, stored-settled_as}
 use Rattle.kernel_model.proofs.Passing.{passed-stays}
 use Rattle.kernel_model.proofs.KeepingTasks.{keep-launched, keep-started, keep-finished, keep-failed}
-use Rattle.kernel_core.specs.Tasks.{life_of, runs}
+use Rattle.kernel_core.specs.Tasks.{life_of}
+use Rattle.agenda_model.specs.Agendas.{runs}
 use Rattle.kernel_core.specs.declared.task.Task.{Task}
 use Rattle.kernel_core.specs.declared.run_state.MainStep.{MainStep}
 use Rattle.kernel_core.proofs.StateViews.{with, Keeps, Wrote, KnownTask, known-task, written-back, runs-counted, wrote}
@@ -37,6 +39,10 @@ unsettled-there w tasks k t s known open_yet = ap outcome_in known.life ∙ unse
 
 pub path-is : (w : Known) (tasks : List Task) (k : ℕ) (t : Task) (s : Status) → KnownTask w tasks k t s → t.record.path ≡ path_at w k
 path-is w tasks k t s known = sym (ap (λ (c : Call). c.path) known.call)
+
+-- that a task of this path settles so
+abbrev pub telling : Path → Status → Outcome → Settlement
+telling path state outcome = record { path = path; status = state; outcome = outcome }
 
 abbrev pub with-record : Task → TaskRecord → Task
 with-record t r = record { «record» = r; end = t.end; ran = t.ran }
@@ -170,14 +176,14 @@ fail-allowed w v tasks steps log k t exception state same is can at is_state =
 abbrev pub settled-record : TaskRecord → Status → TaskRecord
 settled-record r state = record r { status = state }
 
-pub fail-keeps : (w v : Known) (tasks : List Task) (steps : List MainStep) (log same_log log_after : List Entry) (running units k : ℕ) (t u s : Task) (r : TaskRecord) (path : Path) (exception : Exception) (state : Status) → w ≡ v → Keeps w tasks steps log running units → CanFail v k exception
+pub fail-keeps : (w v : Known) (tasks : List Task) (steps : List MainStep) (log same_log log_after : List Entry) (running units k : ℕ) (t u s : Task) (r : TaskRecord) (path : Path) (exception : Exception) (state : Status) → w ≡ v → w.told ≡ [] → Keeps w tasks steps log running units → CanFail v k exception
     → t ≡ get_or tasks k t → r ≡ settled-record t.record state
     → u ≡ get_or tasks k u → path ≡ u.record.path
     → s ≡ get_or (set tasks k (with-record t r)) k s
     → state ≡ status_of (o.Failed exception)
     → same_log ≡ log → log_after ≡ same_log ++ entry.Settled path state ∷ []
     → Wrote w (settled_as v k (o.Failed exception)) (set (set tasks k (with-record t r)) k (ended-task s (o.Failed exception))) steps log_after running units
-fail-keeps w v tasks steps log same_log log_after running units k t u s r path exception state view keeps can at is_r at_u is_path at_s is_state same after =
+fail-keeps w v tasks steps log same_log log_after running units k t u s r path exception state view untold keeps can at is_r at_u is_path at_s is_state same after =
     let before = subst (λ (u : Known). CanFail u k exception) (sym view) can in
     let outcome = o.Failed exception in
     let known = fail-known w tasks steps log k t exception keeps.is at before in
@@ -190,7 +196,7 @@ fail-keeps w v tasks steps log same_log log_after running units k t u s r path e
     let idle : runs t.record.status ≡ 0 = ap runs known.state in
     let rests : runs state ≡ 0 = rw is_state (failed-state (λ s. runs s ≡ 0) refl refl exception) in
     let out : runs s.record.status ≡ 0 = ap (λ (r : TaskRecord). runs r.status) (of_record ∙ is_r) ∙ rests in
-    let is : put w k (life_of (ended-task s outcome)) (entry.Settled path state) ≡ settled_as w k outcome = rw (of_record, of_body, is_r, here, is_state, known.life) refl in
+    let is : put w k (life_of (ended-task s outcome)) (entry.Settled path state) ≡ settled_as w k outcome = rw (of_record, of_body, is_r, here, is_state, known.life, untold) refl in
     let sum = stored-settled_as w k outcome known.lived none in
     let as_many : stored (settled_as w k outcome) ≡ stored w = omega (arith, sum) in
     rw (set-set tasks k (with-record t r) (ended-task s outcome))

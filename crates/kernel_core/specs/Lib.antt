@@ -2,6 +2,7 @@ pub mod Tasks
 pub mod Jobs
 pub mod Joins
 pub mod Views
+pub mod Settlements
 pub mod Turned
 pub mod MainTurns
 pub mod MainWalks

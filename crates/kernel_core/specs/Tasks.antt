@@ -41,15 +41,6 @@ pub record IsIn (ts : List Task) (s : Status) (k : ℕ) : Type 0 where
 abbrev pub NoneIn : List Task → Status → Type 0
 NoneIn ts s = (k : ℕ) (t : Task) → slice_get ts k ≡ Some t → t.record.status ≢ s
 
--- how many attempts of a task in this state run
-abbrev pub runs : Status → ℕ
-runs status.Running = 1
-runs _ = 0
-
-abbrev pub running_in : List Life → ℕ
-running_in [] = 0
-running_in (life ∷ lives) = runs life.status + running_in lives
-
 -- ---- main
 
 -- the answer that main was given

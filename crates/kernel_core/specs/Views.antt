@@ -13,7 +13,8 @@ use Rattle.kernel_model.specs.Invariants.{Inv}
 use Rattle.kernel_model.specs.Limits.{stored, passed}
 use Rattle.kernel_core.specs.declared.task.Task.{Task}
 use Rattle.kernel_core.specs.declared.run_state.MainStep.{MainStep}
-use Rattle.kernel_core.specs.Tasks.{call_of, life_of, answer_of, acts_of, AreOver, running_in}
+use Rattle.kernel_core.specs.Tasks.{call_of, life_of, answer_of, acts_of, AreOver}
+use Rattle.agenda_model.specs.Agendas.{running_in}
 
 abbrev pub known_with : Tree → List Task → List MainStep → Bool → Option Ending → List Entry → Option Refusal → List (List Settlement) → Known
 known_with tree tasks steps arrived ending log refusal told = record {

@@ -2,6 +2,7 @@
 
 ghost use Rattle.std.specs.Prelude.{◌≡◌, ◌^◌, All, false, None, OnOk, IfErr};
 ghost use Rattle.kernel_model.specs.Known.{has_ended, apps_in};
+ghost use Rattle.kernel_model.specs.Telling.{HasTold};
 ghost use Rattle.kernel_model.specs.Turns.{Extends};
 ghost use Rattle.kernel_model.specs.Work.{HasRoom};
 ghost use Rattle.kernel_core.specs.AnyTurns.{Holds, IsHonest, Does, Took, IsTurnRefused, IsCutOff};
@@ -42,7 +43,9 @@ pub fn take_turn<M: Monitor>(kernel: &mut Kernel<M>, turn: Turn) -> Result<(), R
     ensures accepted { OnOk result (kernel.new.refusal ≡ None) }
     ensures refused { IfErr result (IsTurnRefused kernel.old turn kernel.new) }
     ensures extends { Extends kernel.old kernel.new }
+    ensures tells { HasTold kernel.old kernel.new }
 {
+    kernel.facts();
     match turn {
         Turn::Script => {
             kernel.script_turn()?;
@@ -74,6 +77,7 @@ pub fn take_turns<M: Monitor>(kernel: &mut Kernel<M>, turns: Vec<Turn>) -> Resul
     ensures accepted { OnOk result (kernel.new.refusal ≡ kernel.old.refusal) }
     ensures refused { IfErr result (IsCutOff kernel.old kernel.new) }
     ensures extends { Extends kernel.old kernel.new }
+    ensures tells { HasTold kernel.old kernel.new }
     ensures holds { Holds kernel.new }
 {
     let answer = take_each(kernel, turns);
@@ -88,6 +92,7 @@ fn take_each<M: Monitor>(kernel: &mut Kernel<M>, turns: Vec<Turn>) -> Result<(),
     ensures accepted { OnOk result (kernel.new.refusal ≡ kernel.old.refusal) }
     ensures refused { IfErr result (IsCutOff kernel.old kernel.new) }
     ensures extends { Extends kernel.old kernel.new }
+    ensures tells { HasTold kernel.old kernel.new }
 {
     for turn in turns {
         if kernel.ended() {

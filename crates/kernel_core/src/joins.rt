@@ -2,32 +2,45 @@
 
 ghost use Rattle.std.specs.Prelude.{◌≡◌, ◌++◌, ◌≤◌, ◌+◌, ◌-◌, ◌^◌, ◌∷◌, length, map, min, sum, vec_len, vec_capacity, IfOk, OnOk, OnErr, IfErr};
 ghost use Rattle.event_log.specs.declared.entry.Entry.TheVariants as entry;
+ghost use Rattle.dependency_graph.specs.Graphs.{IsOpenTask, with_settlement};
 ghost use Rattle.dependency_graph.specs.Places.{AreDistinct};
+ghost use Rattle.flow_meaning.specs.Sequential as sequential;
 ghost use Rattle.join_apps.specs.Bodies.{calls_of, result_of};
-ghost use Rattle.kernel_model.specs.Known.{begin_at};
-ghost use Rattle.kernel_model.specs.Acts.{joined};
+ghost use Rattle.kernel_model.specs.Known.{begin_at, known, path_at};
+ghost use Rattle.kernel_model.specs.Acts.{joined, settlement_of};
 ghost use Rattle.kernel_model.specs.Limits.{IsRefusedFor, units_of_call};
-ghost use Rattle.kernel_model.specs.Turns.{carried_out};
+ghost use Rattle.kernel_model.specs.Turns.{IsJoinDone, carried_out};
 ghost use Rattle.kernel_core.specs.Joins.{AddsCalls, CanRunJoin, IsOver, JoinEnds, new_tasks, submissions, task_paths};
+ghost use Rattle.agenda_model.specs.Storing.{CanAddAll, CanStoreJoin, CanStoreJoinOf, IsJoinStored, with_join_run, with_tasks};
+ghost use Rattle.kernel_core.specs.Settlements.{MayTell};
 
-use crate::main_acts::app_name;
+use crate::main_acts::{add_call, app_name};
 use crate::run_state::RunState;
 use crate::task::{Task, status_of};
-use dependency_graph::{Monitor, PathTable};
+use dependency_graph::{Graph, Monitor, PathTable, Settlement};
 use event_log::Entry;
 use flow_base::{Ended, Items, Path};
-use join_apps::{BodyFault, Calls, JoinBody, JoinCall, join_outcome, run_body};
+use join_apps::{BodyFault, Calls, JoinBody, JoinCall, awaited_of, join_outcome, run_body};
 use kernel_model::Refusal;
 use script_tree::tree::AppDef;
 use std::alloc::{AllocError, Global};
 use stored_units::{MAX_STORED, MAX_TASKS, call_units, outcome_units};
 use task_record::TaskRecord;
 
-impl<M: Monitor> RunState<M> {
-    /// The body of a join runs on these values, and its calls are submitted.
-    pub fn run_join(&mut self, k: usize, values: Items) -> Result<(), Refusal>
-        requires { CanRunJoin self.old k values }
+impl RunState {
+    /// The body of a join runs on these values, and its calls are submitted. The graph gets their launches, and
+    /// what ends the join.
+    pub fn run_join<M: Monitor>(
+        &mut self,
+        graph: &mut Graph<M>,
+        k: usize,
+        values: Items,
+    ) -> Result<(), Refusal>
+        requires can { CanRunJoin self.old k values }
+        requires store { CanStoreJoinOf graph.old self.old k values }
         ensures ok { OnOk result (self.new ≡ carried_out self.old k (begin_at self.old k)) }
+        ensures stored { OnOk result (IsJoinStored graph.old self.old k values graph.new) }
+        ensures told { graph.new.told ≡ graph.old.told }
         ensures err { OnErr result (self.new ≡ self.old) }
         ensures refused { IfErr result (IsRefusedFor (λ v. v ≡ carried_out self.old k (begin_at self.old k))) }
     {
@@ -51,6 +64,13 @@ impl<M: Monitor> RunState<M> {
         if units > MAX_STORED - self.stored {
             return Err(Refusal::StoreLimit);
         }
+        store_join(
+            self.alloc,
+            graph,
+            self.tasks[k].record.path(),
+            calls.as_slice(),
+            &ended,
+        )?;
         self.submit_calls(k, ended, calls, units)?;
         Ok(())
     }
@@ -91,10 +111,13 @@ impl<M: Monitor> RunState<M> {
     }
 
     /// A join whose body ran settles, as all has settled that it returned.
-    pub fn end_join(&mut self, k: usize) -> Result<(), Refusal>
-        requires { IsOver self.old k }
+    pub fn end_join<M: Monitor>(&mut self, graph: &mut Graph<M>, k: usize) -> Result<(), Refusal>
+        requires over { IsOver self.old k }
+        requires opened { IsOpenTask graph.old (path_at self.old k) }
         ensures ok { OnOk result (JoinEnds self.old k self.new) }
+        ensures settled { OnOk result ((done : IsJoinDone self.old k) → graph.new ≡ with_settlement (settlement_of self.old k (sequential.join_outcome (known self.old) done.result)) graph.old) }
         ensures err { OnErr result (self.new ≡ self.old) }
+        ensures told { IfErr result (λ refusal. (done : IsJoinDone self.old k) → MayTell (settlement_of self.old k (sequential.join_outcome (known self.old) done.result)) graph.old graph.new refusal) }
         ensures refused { IfErr result (IsRefusedFor (JoinEnds self.old k)) }
     {
         let Some(ended) = &self.tasks[k].ran else {
@@ -108,12 +131,51 @@ impl<M: Monitor> RunState<M> {
         }
         let path = self.tasks[k].record.path().copy(self.alloc)?;
         self.log.reserve(self.running + 1)?;
+        let settlement = Settlement {
+            path,
+            status,
+            outcome,
+        };
+        graph.settled(&settlement)?;
+        let Settlement { path, outcome, .. } = settlement;
         self.tasks[k].record.finish(status);
         self.tasks[k].end = Some(outcome);
         self.stored += units;
         self.log.push_reserved(Entry::Settled { path, status });
         Ok(())
     }
+}
+
+// The launches of these calls, and what ends the join of this path, whose body ended so.
+fn store_join<M: Monitor>(
+    alloc: Global,
+    graph: &mut Graph<M>,
+    path: &Path,
+    calls: &[JoinCall],
+    ended: &Ended,
+) -> Result<(), AllocError>
+    requires { CanStoreJoin graph.old path.now (result_of ended.now, calls_of calls.now) }
+    ensures ok { OnOk result (graph.new ≡ with_join_run path.now (result_of ended.now, calls_of calls.now) graph.old) }
+    ensures told { graph.new.told ≡ graph.old.told }
+{
+    add_calls(alloc, graph, calls)?;
+    let awaited = awaited_of(alloc, ended)?;
+    graph.wait_join(alloc, path, awaited.as_slice())
+}
+
+fn add_calls<M: Monitor>(
+    alloc: Global,
+    graph: &mut Graph<M>,
+    calls: &[JoinCall],
+) -> Result<(), AllocError>
+    requires { CanAddAll graph.old (calls_of calls.now) }
+    ensures ok { OnOk result (graph.new ≡ with_tasks (calls_of calls.now) graph.old) }
+    ensures told { graph.new.told ≡ graph.old.told }
+{
+    for call in calls {
+        add_call(alloc, graph, &call.path, call.arguments.as_slice())?;
+    }
+    Ok(())
 }
 
 // The units of these calls. A sum past 64 bits is 2^64 - 1.

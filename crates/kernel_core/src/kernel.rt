@@ -1,18 +1,21 @@
 //! The kernel of a run: its state, and main's walk.
 
-ghost use Rattle.std.specs.Prelude.{◌≡◌, ◌<◌, ◌^◌, length, map, IfOk};
+ghost use Rattle.std.specs.Prelude.{◌≡◌, ◌<◌, ◌^◌, length, map, IfOk, IfErr};
 ghost use Rattle.std.specs.Arc.{arc_value};
 ghost use Rattle.history_laws.specs.Reads.{history_of};
 ghost use Rattle.kernel_model.specs.Known.{has_ended};
 ghost use Rattle.kernel_model.specs.Acts.{started_with};
+ghost use Rattle.kernel_model.specs.declared.answers.Refusal.TheVariants.{NoMemory};
 
+use crate::agenda::Agenda;
 use crate::main_walk::MainWalk;
 use crate::run_state::RunState;
 use dependency_graph::Monitor;
 use event_log::Entry;
+use kernel_model::Refusal;
 use script_tree::checked::Checked;
 use script_tree::script::Script;
-use std::alloc::{AllocError, Global};
+use std::alloc::Global;
 use std::marker::Model;
 use std::sync::Arc;
 
@@ -22,10 +25,19 @@ pub struct Opening {
     pub script: Arc<Checked>,
 }
 
-/// The tasks of a run, main, and the history. Contracts see what is known; its newest entry stands first.
+/// A kernel that could not be opened, for this, and the monitors.
+#[derive(Drop)]
+pub struct NotOpened<M: Monitor> {
+    pub refusal: Refusal,
+    pub monitors: Vec<M>,
+}
+
+/// The tasks of a run, main, the history, and the monitors. Contracts see what is known; its newest entry stands first.
 #[derive(Drop)]
 pub struct Kernel<M: Monitor> {
-    pub(crate) state: RunState<M>,
+    pub(crate) state: RunState,
+    // It follows the state until a turn is refused.
+    pub(crate) agenda: Agenda<M>,
     // It follows the state until main ends or a turn is refused.
     pub(crate) main: MainWalk,
 }
@@ -41,27 +53,35 @@ impl<M: Monitor> Model for Kernel<M> {
     ghost use Rattle.body_program.specs.contracts.code.Step as step;
     ghost use Rattle.app_eval.specs.contracts.position.InnerPosition as position;
     ghost use Rattle.kernel_model.specs.Known.{Known};
+    ghost use Rattle.agenda_model.specs.Agendas.{Serves, seen};
     ghost use Rattle.kernel_core.specs.MainWalks.{Stands};
 
     ghost Value = { Known };
 
     ghost coded = { Prim.hlevel (codes, value.the_row.coded, statement.the_row.coded, expr.the_row.coded, call.the_row.coded, code.the_row.coded, step.the_row.coded, position.the_row.coded) };
 
-    ghost view = { λ k. k.state };
+    ghost view = { λ k. seen k.agenda k.state };
 
-    ghost invariant = { λ k. k.state.refusal ≡ None → k.state.ending ≡ None → Stands k.main k.state };
+    ghost invariant = { λ k. k.state.refusal ≡ None → Serves k.agenda k.state None × (k.state.ending ≡ None → Stands k.main k.state) };
 }
 
 impl<M: Monitor> Kernel<M> {
-    /// The kernel of a script before any turn.
-    pub fn new(alloc: Global, opening: Opening, monitors: Vec<M>) -> Result<Kernel<M>, AllocError>
+    /// The kernel of a script before any turn. Only want of memory refuses it.
+    pub fn new(alloc: Global, opening: Opening, monitors: Vec<M>) -> Result<Kernel<M>, NotOpened<M>>
         requires { length (arc_value opening.script).tree.0 < 2 ^ 32 }
-        ensures { IfOk result (λ kernel. kernel ≡ started_with (arc_value opening.script).tree (map M.told monitors.items)) }
+        ensures ok { IfOk result (λ kernel. kernel ≡ started_with (arc_value opening.script).tree (map M.told monitors.items)) }
+        ensures err { IfErr result (λ not_opened. (not_opened.refusal ≡ NoMemory) × (not_opened.monitors ≡ monitors)) }
     {
         let Opening { script } = opening;
-        let main = MainWalk::new(alloc, &script)?;
+        let Ok(main) = MainWalk::new(alloc, &script) else {
+            return Err(NotOpened {
+                refusal: Refusal::NoMemory,
+                monitors,
+            });
+        };
         Ok(Kernel {
-            state: RunState::new(alloc, script, monitors),
+            state: RunState::new(alloc, script),
+            agenda: Agenda::new(alloc, monitors),
             main,
         })
     }

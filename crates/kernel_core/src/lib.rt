@@ -1,9 +1,12 @@
 //! The kernel: tasks, main and the one history as a machine whose every turn adds its entries.
 #![tactic(auto)]
 
+mod agenda;
 mod any_turns;
 mod beginning;
+mod callbacks;
 mod job;
+mod jobs;
 mod joins;
 mod kernel;
 mod ledger;
@@ -20,6 +23,6 @@ mod turns;
 
 pub use any_turns::{Turn, take_turns};
 pub use job::{Done, Job};
-pub use kernel::{Kernel, Opening};
+pub use kernel::{Kernel, NotOpened, Opening};
 pub use kernel_model::{Delivered, Refusal, ScriptTurn};
 pub use ledger::Ledger;

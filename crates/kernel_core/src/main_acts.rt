@@ -4,7 +4,9 @@ ghost use Rattle.std.specs.Prelude.{◌≡◌, ◌+◌, ◌<◌, ◌^◌, [], �
 ghost use Rattle.flow_base.specs.declared.value.Value.{out-Value};
 ghost use Rattle.flow_meaning.specs.declared.walk.Request.TheVariants as request;
 ghost use Rattle.flow_meaning.specs.Evaluations.{name_in};
-ghost use Rattle.kernel_model.specs.Known.{path_at};
+ghost use Rattle.flow_meaning.specs.Inputs.{inputs};
+ghost use Rattle.dependency_graph.specs.Graphs.{CanAdd, with_task};
+ghost use Rattle.kernel_model.specs.Known.{next_path, path_at};
 ghost use Rattle.kernel_model.specs.Acts.{call_of, called, printed, checkpointed, arrived_at, main_ended, future_of};
 ghost use Rattle.kernel_model.specs.Conditions.{MainAsks, CanEndMain};
 ghost use Rattle.kernel_model.specs.Limits.{IsRefusedFor};
@@ -12,7 +14,7 @@ ghost use Rattle.kernel_core.specs.MainTurns.{AddsCall, CanWait, CanArrive, IsWa
 
 use crate::run_state::{MainStep, RunState};
 use crate::task::Task;
-use dependency_graph::Monitor;
+use dependency_graph::{Graph, Monitor, inputs_of};
 use event_log::Entry;
 use flow_base::{Ending, Items, Names, Path, Text, Value};
 use kernel_model::Refusal;
@@ -21,7 +23,7 @@ use std::alloc::{AllocError, Global};
 use stored_units::{MAX_STORED, MAX_TASKS, call_units};
 use task_record::TaskRecord;
 
-impl<M: Monitor> RunState<M> {
+impl RunState {
     /// A place for one more step of main. What is known stays as it is.
     pub fn reserve_step(&mut self) -> Result<(), AllocError>
         ensures same { self.new ≡ self.old }
@@ -30,11 +32,20 @@ impl<M: Monitor> RunState<M> {
         self.steps.reserve(1)
     }
 
-    /// Main makes a call. It gets the future of it.
-    pub fn call(&mut self, app: u32, arguments: Items, names: Names) -> Result<Value, Refusal>
-        requires { MainAsks self.old (request.Call app arguments names) }
+    /// Main makes a call. It gets the future of it, and the graph its launch.
+    pub fn call<M: Monitor>(
+        &mut self,
+        graph: &mut Graph<M>,
+        app: u32,
+        arguments: Items,
+        names: Names,
+    ) -> Result<Value, Refusal>
+        requires asks { MainAsks self.old (request.Call app arguments names) }
+        requires add { CanAdd graph.old (next_path self.old) (inputs arguments) }
         ensures ok { OnOk result (self.new ≡ called self.old (call_of self.old app arguments names)) }
         ensures future { IfOk result (λ future. future ≡ future_of (call_of self.old app arguments names)) }
+        ensures added { OnOk result (graph.new ≡ with_task (next_path self.old) (inputs arguments) graph.old) }
+        ensures told { graph.new.told ≡ graph.old.told }
         ensures err { OnErr result (self.new ≡ self.old) }
         ensures refused { IfErr result (IsRefusedFor (λ v. v ≡ called self.old (call_of self.old app arguments names))) }
     {
@@ -50,6 +61,7 @@ impl<M: Monitor> RunState<M> {
             path: path.copy(self.alloc)?,
             outputs: names.len() as u32,
         };
+        add_call(self.alloc, graph, &path, arguments.as_slice())?;
         self.submit(path, app, arguments, names, units)?;
         Ok(future)
     }
@@ -153,6 +165,21 @@ impl<M: Monitor> RunState<M> {
     {
         self.ending = Some(ending);
     }
+}
+
+/// Adds the task of a call to the graph, with its launch.
+pub fn add_call<M: Monitor>(
+    alloc: Global,
+    graph: &mut Graph<M>,
+    path: &Path,
+    arguments: &[Value],
+) -> Result<(), AllocError>
+    requires { CanAdd graph.old path.now (inputs arguments.now) }
+    ensures ok { OnOk result (graph.new ≡ with_task path.now (inputs arguments.now) graph.old) }
+    ensures err { OnErr result (graph.new ≡ graph.old) }
+{
+    let inputs = inputs_of(alloc, arguments)?;
+    graph.add(alloc, path, inputs.as_slice())
 }
 
 /// The name of the app of this number, or the empty text where there is none.

@@ -6,9 +6,11 @@ ghost use Rattle.kernel_model.specs.Known.{has_ended, settled_outcome};
 ghost use Rattle.kernel_model.specs.Conditions.{MainAsks};
 ghost use Rattle.kernel_model.specs.Limits.{IsRefusedFor};
 ghost use Rattle.kernel_model.specs.Turns.{script_step, request_step};
+ghost use Rattle.agenda_model.specs.Agendas.{Serves};
 ghost use Rattle.kernel_core.specs.MainTurns.{IsOfCall, IsOfNoCall, IsWaitOf, ending_in};
 ghost use Rattle.kernel_core.specs.MainWalks.{IsTaken, Stands};
 
+use crate::agenda::Agenda;
 use crate::main_walk::MainWalk;
 use crate::run_state::RunState;
 use app_eval::Want;
@@ -20,14 +22,18 @@ use kernel_model::{Refusal, ScriptTurn};
 /// Main goes on by one want. `Over` where it had ended; `Waiting` where it waits, since an earlier turn,
 /// for a task that isn't settled.
 pub fn turn_main<M: Monitor>(
-    state: &mut RunState<M>,
+    state: &mut RunState,
+    agenda: &mut Agenda<M>,
     main: &mut MainWalk,
 ) -> Result<ScriptTurn, Refusal>
     requires going { has_ended state.old ≡ false }
     requires stands { state.old.ending ≡ None → Stands main.old state.old }
+    requires serves { Serves agenda.old state.old None }
     ensures answer { IfOk result (λ answer. answer ≡ (script_step state.old).0) }
     ensures after { OnOk result (state.new ≡ (script_step state.old).1) }
     ensures stands { OnOk result (state.new.ending ≡ None → Stands main.new state.new) }
+    ensures serves { OnOk result (Serves agenda.new state.new None) }
+    ensures told { agenda.new.graph.told ≡ agenda.old.graph.told }
     ensures err { OnErr result (state.new ≡ state.old) }
     ensures refused { IfErr result (IsRefusedFor (λ v. v ≡ (script_step state.old).1)) }
 {
@@ -41,21 +47,25 @@ pub fn turn_main<M: Monitor>(
             state.end_main(ending_of(ended));
             Ok(ScriptTurn::Advanced)
         }
-        Want::Asks(request) => answer(state, main, request),
+        Want::Asks(request) => answer(state, agenda, main, request),
     }
 }
 
 // Main asked for this.
 fn answer<M: Monitor>(
-    state: &mut RunState<M>,
+    state: &mut RunState,
+    agenda: &mut Agenda<M>,
     main: &mut MainWalk,
     request: Request,
 ) -> Result<ScriptTurn, Refusal>
     requires asks { MainAsks state.old request }
     requires taken { IsTaken main.old state.old }
+    requires serves { Serves agenda.old state.old None }
     ensures answer { IfOk result (λ answer. answer ≡ (request_step state.old request).0) }
     ensures after { OnOk result (state.new ≡ (request_step state.old request).1) }
     ensures stands { OnOk result (Stands main.new state.new) }
+    ensures serves { OnOk result (Serves agenda.new state.new None) }
+    ensures told { agenda.new.graph.told ≡ agenda.old.graph.told }
     ensures err { OnErr result (state.new ≡ state.old) }
     ensures refused { IfErr result (IsRefusedFor (λ v. v ≡ (request_step state.old request).1)) }
 {
@@ -65,7 +75,7 @@ fn answer<M: Monitor>(
             app,
             arguments,
             names,
-        } => call(state, main, app, arguments, names),
+        } => call(state, agenda, main, app, arguments, names),
         Request::Print(value) => print(state, main, value),
         Request::Checkpoint => checkpoint(state, main),
         Request::WaitValue(future) => match awaited(state, &future) {
@@ -80,7 +90,8 @@ fn answer<M: Monitor>(
 }
 
 fn call<M: Monitor>(
-    state: &mut RunState<M>,
+    state: &mut RunState,
+    agenda: &mut Agenda<M>,
     main: &mut MainWalk,
     app: u32,
     arguments: Items,
@@ -88,22 +99,21 @@ fn call<M: Monitor>(
 ) -> Result<ScriptTurn, Refusal>
     requires asks { MainAsks state.old (request.Call app arguments names) }
     requires taken { IsTaken main.old state.old }
+    requires serves { Serves agenda.old state.old None }
     ensures answer { IfOk result (λ answer. answer ≡ (request_step state.old (request.Call app arguments names)).0) }
     ensures after { OnOk result (state.new ≡ (request_step state.old (request.Call app arguments names)).1) }
     ensures stands { OnOk result (Stands main.new state.new) }
+    ensures serves { OnOk result (Serves agenda.new state.new None) }
+    ensures told { agenda.new.graph.told ≡ agenda.old.graph.told }
     ensures err { OnErr result (state.new ≡ state.old) }
     ensures refused { IfErr result (IsRefusedFor (λ v. v ≡ (request_step state.old (request.Call app arguments names)).1)) }
 {
-    let future = state.call(app, arguments, names)?;
+    let future = agenda.call(state, app, arguments, names)?;
     main.tell(Answer::Called(future));
     Ok(ScriptTurn::Advanced)
 }
 
-fn print<M: Monitor>(
-    state: &mut RunState<M>,
-    main: &mut MainWalk,
-    value: Value,
-) -> Result<ScriptTurn, Refusal>
+fn print(state: &mut RunState, main: &mut MainWalk, value: Value) -> Result<ScriptTurn, Refusal>
     requires asks { MainAsks state.old (request.Print value) }
     requires taken { IsTaken main.old state.old }
     ensures answer { IfOk result (λ answer. answer ≡ (request_step state.old (request.Print value)).0) }
@@ -117,10 +127,7 @@ fn print<M: Monitor>(
     Ok(ScriptTurn::Advanced)
 }
 
-fn checkpoint<M: Monitor>(
-    state: &mut RunState<M>,
-    main: &mut MainWalk,
-) -> Result<ScriptTurn, Refusal>
+fn checkpoint(state: &mut RunState, main: &mut MainWalk) -> Result<ScriptTurn, Refusal>
     requires asks { MainAsks state.old request.Checkpoint }
     requires taken { IsTaken main.old state.old }
     ensures answer { IfOk result (λ answer. answer ≡ (request_step state.old request.Checkpoint).0) }
@@ -135,8 +142,8 @@ fn checkpoint<M: Monitor>(
 }
 
 // Main waits for the call of this number.
-fn wait<M: Monitor>(
-    state: &mut RunState<M>,
+fn wait(
+    state: &mut RunState,
     main: &mut MainWalk,
     k: usize,
     request: Request,
@@ -162,8 +169,8 @@ fn wait<M: Monitor>(
 }
 
 // Main stays at its wait for a call that isn't settled.
-fn stay<M: Monitor>(
-    state: &mut RunState<M>,
+fn stay(
+    state: &mut RunState,
     main: &mut MainWalk,
     k: usize,
     request: Request,
@@ -189,7 +196,7 @@ fn stay<M: Monitor>(
 }
 
 // The number of the task that a future or an output is of.
-fn awaited<M: Monitor>(state: &RunState<M>, value: &Value) -> Option<usize>
+fn awaited(state: &RunState, value: &Value) -> Option<usize>
     ensures { MatchOption result (IsOfNoCall state.now value.now) (IsOfCall state.now value.now) }
 {
     match value {

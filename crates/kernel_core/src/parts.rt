@@ -25,16 +25,16 @@ impl<M: Monitor> Kernel<M> {
         ensures log { history_of result.1 ≡ self.past }
         ensures monitors { map M.told result.2.items ≡ self.told }
     {
-        let Kernel { state, .. } = self;
-        state.into_parts()
+        let Kernel { state, agenda, .. } = self;
+        let (evaluation, entries) = state.into_parts();
+        (evaluation, entries, agenda.into_monitors())
     }
 }
 
-impl<M: Monitor> RunState<M> {
-    fn into_parts(self) -> (Result<Evaluation, AllocError>, Entries, Vec<M>)
+impl RunState {
+    fn into_parts(self) -> (Result<Evaluation, AllocError>, Entries)
         ensures evaluation { IfOk result.0 (λ evaluation. evaluation ≡ evaluated self) }
         ensures log { history_of result.1 ≡ self.past }
-        ensures monitors { map M.told result.2.items ≡ self.told }
     {
         let RunState {
             alloc,
@@ -43,11 +43,10 @@ impl<M: Monitor> RunState<M> {
             steps,
             ending,
             log,
-            monitors,
             ..
         } = self;
         let evaluation = evaluation_of(alloc, script.script().apps(), tasks, steps, ending);
-        (evaluation, Entries::from_vec(log), monitors)
+        (evaluation, Entries::from_vec(log))
     }
 }
 

@@ -1,14 +1,11 @@
 //! What is read from the tasks of a kernel.
 
-ghost use Rattle.std.specs.Prelude.{◌≡◌, ◌↔◌, MatchOption, IsTrue};
-ghost use Rattle.std.specs.List.{list_all};
-ghost use Rattle.task_record.specs.States.{is_settled};
-ghost use Rattle.kernel_core.specs.Tasks.{NoneIn, IsIn, tasks_by};
+ghost use Rattle.std.specs.Prelude.{◌≡◌, ◌↔◌, IsTrue};
+ghost use Rattle.kernel_core.specs.Tasks.{tasks_by};
 
 use crate::task::Task;
 use dependency_graph::{Outcomes, PathTable};
 use flow_base::{Outcome, Path, Text};
-use task_record::Status;
 
 /// The tasks of a kernel, with the outcomes of those that are settled.
 #[derive(Drop)]
@@ -25,20 +22,6 @@ impl Outcomes for Settled<'_> {
         let k = self.places.place(path)?;
         self.tasks.get(k)?.outcome()
     }
-}
-
-/// The first task in this state.
-pub fn first_in(tasks: &[Task], status: Status) -> Option<usize>
-    ensures { MatchOption result (NoneIn tasks.now status) (IsIn tasks.now status) }
-{
-    tasks.iter().position(|task| task.record.status() == status)
-}
-
-/// Whether all tasks are settled.
-pub fn are_settled(tasks: &[Task]) -> bool
-    ensures { result ≡ list_all (λ t. is_settled t.record.status) tasks.now }
-{
-    tasks.iter().all(|task| task.record.status().is_settled())
 }
 
 /// Whether both are the same names.

@@ -1,6 +1,6 @@
 //! The state of a run: its tasks, what main did, and the history.
 
-ghost use Rattle.std.specs.Prelude.{◌≡◌, ◌<◌, ◌^◌, [], ◌∷◌, length, None, map, reverse, is_some, MatchOption};
+ghost use Rattle.std.specs.Prelude.{◌≡◌, ◌<◌, ◌^◌, [], ◌∷◌, length, None, is_some, MatchOption};
 ghost use Rattle.std.specs.Option.{option_copied};
 ghost use Rattle.std.specs.Arc.{arc_value};
 ghost use Rattle.history_laws.specs.Reads.{history_of, has_end};
@@ -8,12 +8,13 @@ ghost use Rattle.kernel_model.specs.Known.{has_ended, known, path_at, settled_ou
 ghost use Rattle.kernel_model.specs.Acts.{started_with, refused};
 ghost use Rattle.kernel_model.specs.Work.{HasRoom};
 ghost use Rattle.kernel_core.specs.Tasks.{tasks_by};
+ghost use Rattle.agenda_model.specs.Agendas.{running_in};
 ghost use Rattle.kernel_core.specs.Turned.{IsNowhere, IsPlaceOf};
 ghost use Rattle.kernel_core.specs.Views.{IsFact};
 
 use crate::reading::Settled;
 use crate::task::Task;
-use dependency_graph::{Monitor, PathTable};
+use dependency_graph::PathTable;
 use event_log::Entry;
 use flow_base::{Ending, Outcome, Path, Value};
 use kernel_model::Refusal;
@@ -36,9 +37,9 @@ pub enum MainStep {
 }
 
 /// The tasks of a run, what main did, and the history. Contracts see what is known; its newest entry
-/// stands first.
+/// stands first, and no monitor is in it.
 #[derive(Drop)]
-pub struct RunState<M: Monitor> {
+pub struct RunState {
     pub(crate) alloc: Global,
     pub(crate) script: Arc<Checked>,
     pub(crate) tasks: Vec<Task>,
@@ -56,11 +57,10 @@ pub struct RunState<M: Monitor> {
     pub(crate) stored: u64,
     pub(crate) log: Vec<Entry>,
     pub(crate) refusal: Option<Refusal>,
-    pub(crate) monitors: Vec<M>,
 }
 
-impl<M: Monitor> Model for RunState<M> {
-    ghost use Rattle.std.specs.Prelude.{◌≤◌, ◌+◌, map, vec_len, vec_capacity};
+impl Model for RunState {
+    ghost use Rattle.std.specs.Prelude.{◌≤◌, ◌+◌, [], vec_len, vec_capacity};
     ghost use Rattle.std.specs.Arc.{arc_value};
     ghost use Rattle.std.specs.Coded.{codes};
     ghost use Rattle.flow_base.specs.contracts.value.Value as value;
@@ -74,19 +74,19 @@ impl<M: Monitor> Model for RunState<M> {
 
     ghost coded = { Prim.hlevel (codes, value.the_row.coded, statement.the_row.coded, expr.the_row.coded, call.the_row.coded) };
 
-    ghost view = { λ s. known_with (arc_value s.script).tree s.tasks.items s.steps.items s.arrived s.ending s.log.items s.refusal (map M.told s.monitors.items) };
+    ghost view = { λ s. known_with (arc_value s.script).tree s.tasks.items s.steps.items s.arrived s.ending s.log.items s.refusal [] };
 
     ghost invariant = { λ s.
-        IsSound (known_with (arc_value s.script).tree s.tasks.items s.steps.items s.arrived s.ending s.log.items s.refusal (map M.told s.monitors.items)) s.tasks.items s.steps.items s.running s.stored
-        × IsIndexed (known_with (arc_value s.script).tree s.tasks.items s.steps.items s.arrived s.ending s.log.items s.refusal (map M.told s.monitors.items)) s.places s.mains
+        IsSound (known_with (arc_value s.script).tree s.tasks.items s.steps.items s.arrived s.ending s.log.items s.refusal []) s.tasks.items s.steps.items s.running s.stored
+        × IsIndexed (known_with (arc_value s.script).tree s.tasks.items s.steps.items s.arrived s.ending s.log.items s.refusal []) s.places s.mains
         × (vec_len s.log + s.running ≤ vec_capacity s.log) };
 }
 
-impl<M: Monitor> RunState<M> {
+impl RunState {
     /// The state of a run before any turn.
-    pub fn new(alloc: Global, script: Arc<Checked>, monitors: Vec<M>) -> RunState<M>
+    pub fn new(alloc: Global, script: Arc<Checked>) -> RunState
         requires { length (arc_value script).tree.0 < 2 ^ 32 }
-        ensures { result ≡ started_with (arc_value script).tree (map M.told monitors.items) }
+        ensures { result ≡ started_with (arc_value script).tree [] }
     {
         RunState {
             alloc,
@@ -101,7 +101,6 @@ impl<M: Monitor> RunState<M> {
             stored: 0,
             log: Vec::new(alloc),
             refusal: None,
-            monitors,
         }
     }
 
@@ -140,6 +139,20 @@ impl<M: Monitor> RunState<M> {
         ensures { result ≡ is_some self.now.ending }
     {
         self.ending.is_some()
+    }
+
+    /// How many tasks there are.
+    pub fn len(&self) -> usize
+        ensures { result ≡ length self.now.calls }
+    {
+        self.tasks.len()
+    }
+
+    /// How many attempts run.
+    pub fn running(&self) -> usize
+        ensures { result ≡ running_in self.now.lives }
+    {
+        self.running
     }
 
     /// The outcome of the task of this number, once it is settled.

@@ -14,6 +14,7 @@ use crate::kernel::Kernel;
 use crate::main_turn::turn_main;
 use dependency_graph::Monitor;
 use kernel_model::{Delivered, Refusal, ScriptTurn};
+use std::alloc::AllocError;
 
 impl<M: Monitor> Kernel<M> {
     /// Main goes on by one want. `Over` where it had ended before; `Waiting` where it waits, since an
@@ -25,8 +26,12 @@ impl<M: Monitor> Kernel<M> {
         ensures after { OnOk result (self.new ≡ (script_step self.old).1) }
         ensures refused { IfErr result (IsRefused self.old self.new (λ v. v ≡ (script_step self.old).1)) }
     {
-        let Kernel { state, main } = self;
-        match turn_main(state, main) {
+        let Kernel {
+            state,
+            agenda,
+            main,
+        } = self;
+        match turn_main(state, agenda, main) {
             Ok(answer) => Ok(answer),
             Err(refusal) => {
                 state.refuse(refusal);
@@ -39,16 +44,17 @@ impl<M: Monitor> Kernel<M> {
     /// first three rules of a call or for the length of its path, or the body of its join runs, and the calls
     /// of that are submitted. A join that waits for nothing any more is settled by the rule of joins. False
     /// exactly where no callback is ready. It is refused where the calls would be too many, or where calls
-    /// or a value would pass the stored units.
+    /// or a value would pass the stored units. Where memory is wanting some monitors may have been told.
     pub fn callback_turn(&mut self) -> Result<bool, Refusal>
         requires { has_ended self.old ≡ false }
         ensures turn { IfOk result (λ did. CallbackTurn self.old did self.new) }
         ensures refused { IfErr result (IsRefused self.old self.new (CarriesOut self.old)) }
     {
-        match self.state.carry_out() {
+        let Kernel { state, agenda, .. } = self;
+        match agenda.carry_out(state) {
             Ok(did) => Ok(did),
             Err(refusal) => {
-                self.state.refuse(refusal);
+                state.refuse(refusal);
                 Err(refusal)
             }
         }
@@ -62,9 +68,13 @@ impl<M: Monitor> Kernel<M> {
         ensures fits { IfOk result (λ job. IfSome job (FitsApps (apps_in self.old))) }
         ensures refused { IfErr result (λ refusal. (refusal ≡ NoMemory) × (self.new ≡ refused self.old NoMemory)) }
     {
-        match self.state.take_job() {
+        let Kernel { state, agenda, .. } = self;
+        match agenda.take_job(state) {
             Ok(job) => Ok(job),
-            Err(_) => Err(self.refuse_memory()),
+            Err(AllocError) => {
+                state.refuse(Refusal::NoMemory);
+                Err(Refusal::NoMemory)
+            }
         }
     }
 
@@ -74,7 +84,8 @@ impl<M: Monitor> Kernel<M> {
         requires end { IsEndOf (apps_in self.old) done }
         ensures { DeliverTurn self.old done result self.new }
     {
-        self.state.deliver(done)
+        let Kernel { state, agenda, .. } = self;
+        agenda.deliver(state, done)
     }
 
     /// Settles a task whose attempt is over. False exactly where there is none. It is refused where the
@@ -84,10 +95,11 @@ impl<M: Monitor> Kernel<M> {
         ensures turn { IfOk result (λ did. SettleTurn self.old did self.new) }
         ensures refused { IfErr result (IsRefused self.old self.new (Settles self.old)) }
     {
-        match self.state.settle_one() {
+        let Kernel { state, agenda, .. } = self;
+        match agenda.settle_one(state) {
             Ok(did) => Ok(did),
             Err(refusal) => {
-                self.state.refuse(refusal);
+                state.refuse(refusal);
                 Err(refusal)
             }
         }
@@ -100,17 +112,13 @@ impl<M: Monitor> Kernel<M> {
         ensures turn { IfOk result (λ did. EndTurn self.old did self.new) }
         ensures refused { IfErr result (λ refusal. (refusal ≡ NoMemory) × (self.new ≡ refused self.old NoMemory)) }
     {
-        match self.state.end_run() {
+        let Kernel { state, agenda, .. } = self;
+        match agenda.end_run(state) {
             Ok(did) => Ok(did),
-            Err(_) => Err(self.refuse_memory()),
+            Err(AllocError) => {
+                state.refuse(Refusal::NoMemory);
+                Err(Refusal::NoMemory)
+            }
         }
-    }
-
-    fn refuse_memory(&mut self) -> Refusal
-        ensures after { self.new ≡ refused self.old NoMemory }
-        ensures answer { result ≡ NoMemory }
-    {
-        self.state.refuse(Refusal::NoMemory);
-        Refusal::NoMemory
     }
 }

@@ -11,6 +11,7 @@ use Rattle.task_record.specs.declared.status.Status.{Status}
 use Rattle.task_record.specs.declared.status.Status.TheVariants as status
 use Rattle.task_record.specs.States.{is_settled}
 use Rattle.event_log.specs.declared.entry.Entry.TheVariants as entry
+use Rattle.dependency_graph.specs.Monitors.{tell}
 use Rattle.flow_meaning.specs.Evaluations.{no_losses}
 use Rattle.flow_meaning.specs.Inputs.{Path}
 use Rattle.flow_meaning.specs.Meaning.{Done}
@@ -21,13 +22,14 @@ use Rattle.history_laws.specs.Tables.{task_at, status_of, kind_of, kind_with, is
 use Rattle.history_laws.specs.Laws.{MayFollow, MaySettle, IsOut, AttemptsSettle, AllSettled}
 use Rattle.kernel_model.specs.Known.{Known, no_retries, call_at, path_at, life_at, status_at, outcome_in, settled_outcome, inputs_at, known, begin_at, word_of, has_ended, apps_in}
 use Rattle.kernel_model.specs.Invariants.{IsLife, IsReached, HasRun, IsOf, of_main, of_join, IsDue, FitsAt, FollowsEvaluation, IsAttempted, IsConsistent, Inv, stage_with, try_with, last_cost}
-use Rattle.kernel_model.specs.Acts.{launched, started, finished, settled_as, joining}
+use Rattle.kernel_model.specs.Acts.{put, launched, started, finished, settlement_of, settled_as, joining}
 use Rattle.kernel_model.specs.Turns.{IsCallback}
 use Rattle.kernel_model.specs.Conditions.{CanLaunch, CanStart, CanFinish, CanFail, CanSettle, CanJoin, CanEndJoin}
 use Rattle.call_rules.proofs.Tasks.{some-of, parent-same, length-child}
 use Rattle.call_rules.proofs.Agreeing.{begin-attempts, begin-joins, runs-values}
 use Rattle.kernel_model.proofs.Places.{life-same, status-within, known-put, known-settled, values-valued}
 use Rattle.kernel_model.proofs.Reading.{path-same}
+use Rattle.kernel_model.proofs.Retelling.{inv-retold}
 use Rattle.kernel_model.proofs.Knowing.{knows-call}
 use Rattle.kernel_model.proofs.KeepingPut.{keep-put, joined-on, put-grows, no-awaits}
 use Rattle.history_laws.proofs.Dues.{due-path}
@@ -236,8 +238,12 @@ record CanClose (w : Known) (k : ℕ) (outcome : Outcome) : Type 0 where
   ran : is_join (begin_at w k) ≡ true → IsSome (life_at w k).ran
   attempts : (losses : Losses) → FollowsEvaluation losses w → AttemptsSettle no_retries (task_at (table w.tree losses) (path_at w k)) w.past (path_at w k) (status_of outcome)
 
-keep-closed : (w : Known) (k : ℕ) (outcome : Outcome) → Inv w → CanClose w k outcome → Inv (settled_as w k outcome)
-keep-closed w k outcome inv can =
+-- settled, and the monitors not yet told
+abbrev closed_yet : Known → ℕ → Outcome → Known
+closed_yet w k outcome = put w k (record (life_at w k) { status = status_of outcome; end = Some outcome }) (entry.Settled (path_at w k) (status_of outcome))
+
+keep_closed_yet : (w : Known) (k : ℕ) (outcome : Outcome) → Inv w → CanClose w k outcome → Inv (closed_yet w k outcome)
+keep_closed_yet w k outcome inv can =
     let h = inv.holds in
     let tw = h.tracks in
     let p : Path = path_at w k in
@@ -250,7 +256,7 @@ keep-closed w k outcome inv can =
     let state = status_of outcome in
     let is : is_settled state ≡ true = by-state (λ s. is_settled s ≡ true) refl refl refl outcome in
     let same : (q : Outcome) → (if is_settled state then Some outcome else None) ≡ Some q → outcome ≡ q = λ q g. let f = rw is at g in cc in
-    let v : Known = settled_as w k outcome in
+    let v : Known = closed_yet w k outcome in
     let has : settled_outcome v k ≡ Some outcome = ap outcome_in (life-same w k _ (entry.Settled p state) placed) ∙ rw is refl in
     let kept : (q : Outcome) → settled_outcome w k ≡ Some q → (if is_settled state then Some outcome else None) ≡ Some q = λ q g. absurd (none-at w k q can.unsettled g) in
     let some-true : (r : Option (Result Done Exception)) → IsSome r → is_some r ≡ true = λ r g. g in
@@ -294,6 +300,9 @@ keep-closed w k outcome inv can =
       });
       quiet = λ j n lt at. absurd (cc);
     }
+
+keep-closed : (w : Known) (k : ℕ) (outcome : Outcome) → Inv w → CanClose w k outcome → Inv (settled_as w k outcome)
+keep-closed w k outcome inv can = inv-retold (closed_yet w k outcome) (tell (settlement_of w k outcome) w.told) (keep_closed_yet w k outcome inv can)
 
 -- one of the first three rules settles it, or its depth
 pub keep-failed : (w : Known) (k : ℕ) (exception : Exception) → Inv w → CanFail w k exception → Inv (settled_as w k (o.Failed exception))

@@ -2,6 +2,7 @@ pub mod Places
 pub mod Growing
 pub mod Reading
 pub mod Knowing
+pub mod Retelling
 pub mod KeepingPut
 pub mod KeepingTasks
 pub mod KeepingSubmits
@@ -17,3 +18,6 @@ pub mod Passing
 pub mod Waits
 pub mod Pairing
 pub mod Totals
+pub mod RetoldConditions
+pub mod Telling
+pub mod SettledLogs

@@ -37,7 +37,7 @@ life-outcome life outcome h = by_test (is_settled life.status) refl
 
 -- ---- settled tasks
 
-abbrev Distinct : List Call → Type 0
+abbrev pub Distinct : List Call → Type 0
 Distinct cs = (j k : ℕ) → j < length cs → k < length cs → (get_or cs j no_call).path ≡ (get_or cs k no_call).path → j ≡ k
 
 distinct_rest : (c : Call) (cs : List Call) → Distinct (c ∷ cs) → Distinct cs
@@ -60,18 +60,19 @@ absent [] lives p ne = refl
 absent (c ∷ cs) [] p ne = refl
 absent (c ∷ cs) (life ∷ lives) p ne = where_other c (outcome_in life) (known_in cs lives) p (ne 0 (omega arith)) ∙ absent cs lives p (λ k lt. ne (suc k) (omega arith))
 
-known_at : (cs : List Call) (lives : List Life) → length lives ≡ length cs → Distinct cs → (k : ℕ) → k < length cs → outcome_at (known_in cs lives) (get_or cs k no_call).path ≡ outcome_in (get_or lives k no_life)
-known_at [] lives same distinct k lt = absurd (omega arith)
-known_at (c ∷ cs) [] same distinct k lt = absurd (omega arith)
-known_at (c ∷ cs) (life ∷ lives) same distinct zero lt =
+-- what is settled is known by its place
+pub known_in-at : (cs : List Call) (lives : List Life) → length lives ≡ length cs → Distinct cs → (k : ℕ) → k < length cs → outcome_at (known_in cs lives) (get_or cs k no_call).path ≡ outcome_in (get_or lives k no_life)
+known_in-at [] lives same distinct k lt = absurd (omega arith)
+known_in-at (c ∷ cs) [] same distinct k lt = absurd (omega arith)
+known_in-at (c ∷ cs) (life ∷ lives) same distinct zero lt =
     where_same c (outcome_in life) (known_in cs lives) (absent cs lives c.path (λ k less e. let eq = distinct 0 (suc k) (omega arith) (omega arith) (sym e) in omega arith))
-known_at (c ∷ cs) (life ∷ lives) same distinct (suc k) lt =
+known_in-at (c ∷ cs) (life ∷ lives) same distinct (suc k) lt =
     where_other c (outcome_in life) (known_in cs lives) (get_or cs k no_call).path (λ e. let eq = distinct 0 (suc k) (omega arith) (omega arith) e in omega arith)
-    ∙ known_at cs lives (omega arith) (distinct_rest c cs distinct) k (omega arith)
+    ∙ known_in-at cs lives (omega arith) (distinct_rest c cs distinct) k (omega arith)
 
 -- what is settled is known by its path
 pub known-at : (w : Known) → Tracks w → (k : ℕ) → k < length w.calls → outcome_at (known w) (path_at w k) ≡ settled_outcome w k
-known-at w tracks k lt = known_at w.calls w.lives tracks.lives tracks.distinct k lt
+known-at w tracks k lt = known_in-at w.calls w.lives tracks.lives tracks.distinct k lt
 
 -- the call of a path
 pub record IsAt (w : Known) (p : Path) : Type 0 where

@@ -10,6 +10,7 @@ use Rattle.task_record.specs.declared.status.Status.TheVariants as status
 use Rattle.event_log.specs.declared.entry.Entry.{Entry}
 use Rattle.event_log.specs.declared.entry.Entry.TheVariants as entry
 use Rattle.dependency_graph.specs.declared.monitor.Settlement.{Settlement}
+use Rattle.dependency_graph.specs.Monitors.{tell}
 use Rattle.flow_meaning.specs.declared.walk.Answer.{Answer}
 use Rattle.flow_meaning.specs.declared.walk.Answer.TheVariants as answer
 use Rattle.flow_meaning.specs.Inputs.{Path}
@@ -92,9 +93,16 @@ started w k = put w k (record (life_at w k) { status = status.Running }) (entry.
 abbrev pub finished : Known → ℕ → Outcome → Known
 finished w k outcome = put w k (record (life_at w k) { status = status.RunningEnded; end = Some outcome }) (entry.Ended (path_at w k) (life_at w k).attempts 1 (word_of outcome))
 
--- the task is settled so
+abbrev pub settlement_of : Known → ℕ → Outcome → Settlement
+settlement_of w k outcome = record { path = path_at w k; status = status_of outcome; outcome = outcome }
+
+-- the monitors were told this
+abbrev pub retold : List (List Settlement) → Known → Known
+retold told w = record w { told = told }
+
+-- the task is settled so, and each monitor is told
 abbrev pub settled_as : Known → ℕ → Outcome → Known
-settled_as w k outcome = put w k (record (life_at w k) { status = status_of outcome; end = Some outcome }) (entry.Settled (path_at w k) (status_of outcome))
+settled_as w k outcome = retold (tell (settlement_of w k outcome) w.told) (put w k (record (life_at w k) { status = status_of outcome; end = Some outcome }) (entry.Settled (path_at w k) (status_of outcome)))
 
 -- the body of a join ran, and its calls are still to be submitted
 abbrev pub joining : Known → ℕ → Dry → Known

@@ -7,3 +7,4 @@ pub mod Conditions
 pub mod Evaluated
 pub mod Work
 pub mod Limits
+pub mod Telling

@@ -94,7 +94,9 @@ fn run_checked(
 fn run(alloc: Global, opening: Opening, order: Order, rounds: usize) -> Result<Given, AllocError>
     requires { length (arc_value opening.script).tree.0 < 2 ^ 32 }
 {
-    let mut kernel = Kernel::<Ledger>::new(alloc, opening, Vec::new(alloc))?;
+    let Ok(mut kernel) = Kernel::<Ledger>::new(alloc, opening, Vec::new(alloc)) else {
+        return Err(AllocError);
+    };
     for number in 0..rounds {
         if round(alloc, &mut kernel, order, number).is_err() {
             return Err(AllocError);

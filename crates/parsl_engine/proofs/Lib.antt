@@ -6,3 +6,4 @@ mod Stopping
 mod Attempts
 pub mod Opening
 mod Outputs
+mod RunsTold

@@ -1,58 +1,89 @@
 -- What is produced for the text of a script.
-use Rattle.std.proofs.Common.{◌≡◌, List, refl, sym, ap, ◌∙◌, subst, Ok, Err}
+use Rattle.std.proofs.Common.{◌≡◌, ◌⊎◌, ℕ, inl, inr, List, Option, None, Some, refl, sym, ap, ◌∙◌, subst, Ok, Err}
 use Rattle.std.specs.declared.result.Result.{Result}
 use Rattle.std.specs.declared.alloc.AllocError.{AllocError}
-use Rattle.script_tree.specs.Grammar.{PlacedTree}
+use Rattle.script_tree.specs.Grammar.{Tree, PlacedTree}
 use Rattle.flow_base.specs.declared.outcome.Evaluation.{Evaluation}
 use Rattle.flow_meaning.specs.Evaluations.{evaluation}
 use Rattle.event_log.specs.declared.entry.Entry.{Entry}
+use Rattle.history_laws.specs.Legal.{IsLegalLog}
 use Rattle.log_lines.specs.ReadBack.{IsReadBack}
 use Rattle.run_report.specs.Reported.{report_text}
 use Rattle.kernel_model.specs.declared.answers.Refusal.{Refusal}
 use Rattle.kernel_model.specs.declared.answers.Refusal.TheVariants as refusal
+use Rattle.kernel_model.specs.Known.{no_retries}
 use Rattle.stored_units.specs.Totals.{IsWithinLimits}
 use Rattle.parsl_engine.specs.declared.output.Output.{Output}
+use Rattle.parsl_engine.specs.declared.words.Command.{Command}
 use Rattle.parsl_engine.specs.declared.words.Command.TheVariants as command
+use Rattle.parsl_engine.specs.declared.script.ScriptRefusal.TheVariants.{Parse, Check, NotYet}
 use Rattle.parsl_engine.specs.declared.script.ScriptFault.{ScriptFault}
 use Rattle.parsl_engine.specs.declared.script.ScriptFault.TheVariants.{Refused, Limited, NoMemory}
 use Rattle.parsl_engine.specs.declared.run.PartEnd.{PartEnd}
 use Rattle.parsl_engine.specs.declared.run.PartEnd.TheVariants.{Ended, Refused as run_refused}
-use Rattle.parsl_engine.specs.declared.run.RunEnd.{RunEnd}
-use Rattle.parsl_engine.specs.Runs.{IsWholeLog, without_losses, HasRun, RefusesFor, Goes, IsRun}
-use Rattle.parsl_engine.specs.Scripts.{IsUncached}
-use Rattle.parsl_engine.specs.Output.{is_raised, Gives, ReportsOn, TellsEnd, Tells}
+use Rattle.parsl_engine.specs.Runs.{IsWholeLog, without_losses, HasRun, IsCutShort, IsRun, refusal_of}
+use Rattle.parsl_engine.specs.Scripts.{IsCheckedText, IsUncached}
+use Rattle.parsl_engine.specs.Output.{is_raised, Gives, IsNotYet, MayHaveTold, Produces, Refuses, ReportsOn, TellsEnd, TellsFor}
+use Rattle.parsl_engine.specs.Tellings.{Ledgers, TellsRun, TellsLegal}
 
 -- the log of a run is read back from its report
 abbrev pub Reads : PlacedTree → List Entry → Type 0
 Reads script log = IsWholeLog script.tree log → IsReadBack (report_text (evaluation script.tree) log) log
 
--- the report of the sequential evaluation and of a legal and complete log
-reports : (script : PlacedTree) (log : List Entry) (e : Evaluation) (r : Result Output ScriptFault) → Reads script log → IsUncached script.tree → IsWithinLimits (without_losses script.tree) → IsWholeLog script.tree log → e ≡ evaluation script.tree → ReportsOn e log r → Gives command.Run script r
-reports script log e (Ok output) read uncached within whole same told = record {
-  uncached = uncached;
-  within = within;
-  log = log;
-  whole = whole;
-  report = told.0 ∙ ap (λ (e : Evaluation). report_text e log) same;
-  reads = rw (told.0 ∙ ap (λ (e : Evaluation). report_text e log) same) (read whole);
-  raised_is = told.1 ∙ ap (λ (e : Evaluation). is_raised e.main) same;
-}
-reports script log e (Err (Refused why)) read uncached within whole same told = absurd told
-reports script log e (Err (Limited why)) read uncached within whole same told = absurd told
-reports script log e (Err NoMemory) read uncached within whole same told = tt
+-- what the monitors were told of a legal log
+legal_told : (tree : Tree) (refusal : Option Refusal) (log : List Entry) (told told' : Ledgers) → IsLegalLog tree no_retries log → TellsRun tree refusal log told told' → TellsLegal tree refusal told told'
+legal_told tree refusal log told told' legal run = record { log = log; legal = legal; run = run }
 
-given : (script : PlacedTree) (run : RunEnd) (gave : Result Evaluation AllocError) (r : Result Output ScriptFault) → Reads script run.history → IsUncached script.tree → HasRun script.tree run → run.evaluation ≡ gave → TellsEnd Ended gave run.history r → Gives command.Run script r
-given script run (Ok e) r read uncached has is told = reports script run.history e r read uncached has.within has.log (let same = has.gives in rw is at same) told
-given script run (Err fault) r read uncached has is told = subst (Gives command.Run script) (sym told) tt
+module _ (script : PlacedTree) (log : List Entry) (told told' : Ledgers) (r : Result Output ScriptFault) (uncached : IsUncached script.tree) where
+  -- the report of the sequential evaluation and of a legal and complete log
+  reports : (e : Evaluation) → Reads script log → IsWithinLimits (without_losses script.tree) → IsWholeLog script.tree log → e ≡ evaluation script.tree → TellsRun script.tree None log told told' → ReportsOn e log r → Gives command.Run script r told told'
+  reports e read within whole same tells made = by_output r made
+    where
+      by_output : (s : Result Output ScriptFault) → ReportsOn e log s → Gives command.Run script s told told'
+      by_output (Ok output) made = record {
+        uncached = uncached;
+        within = within;
+        log = log;
+        whole = whole;
+        report = made.0 ∙ ap (λ (e : Evaluation). report_text e log) same;
+        reads = rw (made.0 ∙ ap (λ (e : Evaluation). report_text e log) same) (read whole);
+        tells = tells;
+        raised_is = made.1 ∙ ap (λ (e : Evaluation). is_raised e.main) same;
+      }
+      by_output (Err (Refused why)) made = absurd made
+      by_output (Err (Limited why)) made = absurd made
+      by_output (Err NoMemory) made = inr (None, legal_told script.tree None log told told' whole.legal tells)
 
-cut_short : (script : PlacedTree) (run : RunEnd) (r : Result Output ScriptFault) (refused : Refusal) → IsUncached script.tree → RefusesFor script.tree refused → TellsEnd (run_refused refused) run.evaluation run.history r → Gives command.Run script r
-cut_short script run r refusal.NoMemory uncached cause told = subst (Gives command.Run script) (sym told) tt
-cut_short script run r refusal.TaskLimit uncached cause told = subst (Gives command.Run script) (sym told) (uncached, cause)
-cut_short script run r refusal.StoreLimit uncached cause told = subst (Gives command.Run script) (sym told) (uncached, cause)
+  given : (gave : Result Evaluation AllocError) → Reads script log → HasRun script.tree gave log → TellsRun script.tree None log told told' → TellsEnd Ended gave log r → Gives command.Run script r told told'
+  given (Ok e) read has tells made = reports e read has.within has.whole has.gives tells made
+  given (Err fault) read has tells made = subst (λ (s : Result Output ScriptFault). Gives command.Run script s told told') (sym made) (inr (None, legal_told script.tree None log told told' has.whole.legal tells))
 
-ends : (script : PlacedTree) (run : RunEnd) (end : PartEnd) (r : Result Output ScriptFault) → Reads script run.history → IsUncached script.tree → Goes script.tree run end → TellsEnd end run.evaluation run.history r → Gives command.Run script r
-ends script run Ended r read uncached goes told = given script run run.evaluation r read uncached goes refl told
-ends script run (run_refused refused) r read uncached goes told = cut_short script run r refused uncached goes.cause told
+  cut_short : (gave : Result Evaluation AllocError) (refused : Refusal) → IsCutShort script.tree log refused → TellsRun script.tree (Some refused) log told told' → TellsEnd (run_refused refused) gave log r → Gives command.Run script r told told'
+  cut_short gave refusal.NoMemory is tells made = subst (λ (s : Result Output ScriptFault). Gives command.Run script s told told') (sym made) (inr (Some refusal.NoMemory, legal_told script.tree (Some refusal.NoMemory) log told told' is.legal tells))
+  cut_short gave refusal.TaskLimit is tells made = subst (λ (s : Result Output ScriptFault). Gives command.Run script s told told') (sym made) ((uncached, is.cause), legal_told script.tree (Some refusal.TaskLimit) log told told' is.legal tells)
+  cut_short gave refusal.StoreLimit is tells made = subst (λ (s : Result Output ScriptFault). Gives command.Run script s told told') (sym made) ((uncached, is.cause), legal_told script.tree (Some refusal.StoreLimit) log told told' is.legal tells)
 
-pub run_gives : (script : PlacedTree) (run : RunEnd) (r : Result Output ScriptFault) → Reads script run.history → IsUncached script.tree → IsRun script.tree run → Tells run r → Gives command.Run script r
-run_gives script run r read uncached is tells = ends script run run.end r read uncached is tells
+pub run_gives : (script : PlacedTree) (end : PartEnd) (gave : Result Evaluation AllocError) (log : List Entry) (r : Result Output ScriptFault) (told told' : Ledgers) → Reads script log → IsUncached script.tree → IsRun script.tree end gave log → TellsRun script.tree (refusal_of end) log told told' → TellsEnd end gave log r → Gives command.Run script r told told'
+run_gives script Ended gave log r told told' read uncached is tells made = given script log told told' r uncached gave read is tells made
+run_gives script (run_refused refused) gave log r told told' read uncached is tells made = cut_short script log told told' r uncached gave refused is tells made
+
+-- ---- what is given for a script is produced for its bytes
+
+module _ (c : Command) (bytes : List ℕ) (script : PlacedTree) (told told' : Ledgers) (text : IsCheckedText bytes script) (not_yet : IsNotYet bytes → Refuses c bytes NotYet) where
+  may_tell : (told' ≡ told) ⊎ ((refusal : Option Refusal) × TellsFor c script refusal told told') → MayHaveTold c bytes told told'
+  may_tell (inl same) = inl same
+  may_tell (inr tells) = inr (tells.0, record { script = script; text = text; tells = tells.1 })
+
+  pub produces : (r : Result Output ScriptFault) → Gives c script r told told' → Produces c bytes r told told'
+  produces (Ok output) gives = record { script = script; text = text; prints = gives }
+  produces (Err (Refused (Parse kind place))) gives = absurd gives
+  produces (Err (Refused (Check kind place))) gives = absurd gives
+  produces (Err (Refused NotYet)) gives = (not_yet (record { script = script; text = text; cached = gives.0 }), gives.1)
+  produces (Err (Limited l)) gives = (record { script = script; text = text; uncached = gives.0.0; passes = gives.0.1 }, record { script = script; text = text; tells = gives.1 })
+  produces (Err NoMemory) gives = may_tell gives
+
+pub seq_produces : (bytes : List ℕ) (script : PlacedTree) (r : Result Output ScriptFault) (told : Ledgers) → IsCheckedText bytes script → Gives command.Seq script r told told → Produces command.Seq bytes r told told
+seq_produces bytes script r told text = produces command.Seq bytes script told told text (λ n. n) r
+
+pub run_produces : (bytes : List ℕ) (script : PlacedTree) (r : Result Output ScriptFault) (told told' : Ledgers) → IsCheckedText bytes script → Gives command.Run script r told told' → Produces command.Run bytes r told told'
+run_produces bytes script r told told' text = produces command.Run bytes script told told' text (λ n. n) r

@@ -20,6 +20,7 @@ use Rattle.stored_units.specs.Totals.{limit_met, IsWithinLimits}
 use Rattle.parsl_engine.specs.Scripts.{IsCheckedText, BreaksRule, IsFaulty, IsUncached}
 use Rattle.parsl_engine.specs.Runs.{without_losses, PassesLimit}
 use Rattle.parsl_engine.specs.Output.{Prints, IsNotYet, Refuses, Limits}
+use Rattle.parsl_engine.specs.Tellings.{Ledgers}
 
 -- ---- a script that breaks no rule has no fault, wherever its tokens stand
 
@@ -139,19 +140,19 @@ same_script bytes s t a b = b.text.only s a.text.has
 not_cached : (bytes : List ℕ) (s : PlacedTree) → IsCheckedText bytes s → IsUncached s.tree → IsNotYet bytes → ⊥
 not_cached bytes s text uncached n = n.cached (subst (λ (p : PlacedTree). IsUncached p.tree) (same_script bytes s n.script text n.text) uncached)
 
-pub not_refused : (c : Command) (bytes output : List ℕ) (raised : Bool) (r : ScriptRefusal) → Prints c bytes output raised → Refuses c bytes r → ⊥
-not_refused command.Run bytes output raised NotYet p n = not_cached bytes p.script p.text p.prints.uncached n
-not_refused command.Run bytes output raised (Parse kind place) p h = right_faultless bytes p.script (Parse kind place) p.text h
-not_refused command.Run bytes output raised (Check kind place) p h = right_faultless bytes p.script (Check kind place) p.text h
-not_refused command.Seq bytes output raised NotYet p n = not_cached bytes p.script p.text p.prints.uncached n
-not_refused command.Seq bytes output raised (Parse kind place) p h = right_faultless bytes p.script (Parse kind place) p.text h
-not_refused command.Seq bytes output raised (Check kind place) p h = right_faultless bytes p.script (Check kind place) p.text h
-not_refused command.Check bytes output raised NotYet p h = h
-not_refused command.Check bytes output raised (Parse kind place) p h = right_faultless bytes p.script (Parse kind place) p.text h
-not_refused command.Check bytes output raised (Check kind place) p h = right_faultless bytes p.script (Check kind place) p.text h
-not_refused command.Format bytes output raised NotYet p h = h
-not_refused command.Format bytes output raised (Parse kind place) p h = right_faultless bytes p.script (Parse kind place) p.text h
-not_refused command.Format bytes output raised (Check kind place) p h = right_faultless bytes p.script (Check kind place) p.text h
+pub not_refused : (c : Command) (bytes output : List ℕ) (raised : Bool) (told told' : Ledgers) (r : ScriptRefusal) → Prints c bytes output raised told told' → Refuses c bytes r → ⊥
+not_refused command.Run bytes output raised told told' NotYet p n = not_cached bytes p.script p.text p.prints.uncached n
+not_refused command.Run bytes output raised told told' (Parse kind place) p h = right_faultless bytes p.script (Parse kind place) p.text h
+not_refused command.Run bytes output raised told told' (Check kind place) p h = right_faultless bytes p.script (Check kind place) p.text h
+not_refused command.Seq bytes output raised told told' NotYet p n = not_cached bytes p.script p.text p.prints.0.uncached n
+not_refused command.Seq bytes output raised told told' (Parse kind place) p h = right_faultless bytes p.script (Parse kind place) p.text h
+not_refused command.Seq bytes output raised told told' (Check kind place) p h = right_faultless bytes p.script (Check kind place) p.text h
+not_refused command.Check bytes output raised told told' NotYet p h = h
+not_refused command.Check bytes output raised told told' (Parse kind place) p h = right_faultless bytes p.script (Parse kind place) p.text h
+not_refused command.Check bytes output raised told told' (Check kind place) p h = right_faultless bytes p.script (Check kind place) p.text h
+not_refused command.Format bytes output raised told told' NotYet p h = h
+not_refused command.Format bytes output raised told told' (Parse kind place) p h = right_faultless bytes p.script (Parse kind place) p.text h
+not_refused command.Format bytes output raised told told' (Check kind place) p h = right_faultless bytes p.script (Check kind place) p.text h
 
 -- ---- what passes a limit has no output, and isn't refused
 
@@ -162,13 +163,13 @@ within_passes tree limit.Stored within passes = let small = within.small in absu
 none_met : (tree : Tree) (l : Limit) → limit_met (without_losses tree) ≡ None → limit_met (without_losses tree) ≡ Some l → ⊥
 none_met tree l none met = absurd (let bad : Some l ≡ None = sym met ∙ none in cc)
 
-pub not_limited : (c : Command) (bytes output : List ℕ) (raised : Bool) (l : Limit) → Prints c bytes output raised → Limits c bytes l → ⊥
-not_limited command.Run bytes output raised l p h =
+pub not_limited : (c : Command) (bytes output : List ℕ) (raised : Bool) (told told' : Ledgers) (l : Limit) → Prints c bytes output raised told told' → Limits c bytes l → ⊥
+not_limited command.Run bytes output raised told told' l p h =
     within_passes p.script.tree l p.prints.within (subst (λ (s : PlacedTree). PassesLimit s.tree l) (same_script bytes h.script p.script h.text p.text) h.passes)
-not_limited command.Seq bytes output raised l p h =
-    none_met p.script.tree l p.prints.within (subst (λ (s : PlacedTree). limit_met (without_losses s.tree) ≡ Some l) (same_script bytes h.script p.script h.text p.text) h.passes)
-not_limited command.Check bytes output raised l p h = h.passes
-not_limited command.Format bytes output raised l p h = h.passes
+not_limited command.Seq bytes output raised told told' l p h =
+    none_met p.script.tree l p.prints.0.within (subst (λ (s : PlacedTree). limit_met (without_losses s.tree) ≡ Some l) (same_script bytes h.script p.script h.text p.text) h.passes)
+not_limited command.Check bytes output raised told told' l p h = h.passes
+not_limited command.Format bytes output raised told told' l p h = h.passes
 
 by_cause : (bytes : List ℕ) (r : ScriptRefusal) (s : PlacedTree) → IsCheckedText bytes s → IsUncached s.tree → Cause bytes r → ⊥
 by_cause bytes r s text uncached (inl f) = right_faultless bytes s r text f

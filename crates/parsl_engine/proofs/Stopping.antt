@@ -1,5 +1,5 @@
 -- What a refused turn says.
-use Rattle.std.proofs.Common.{◌≡◌, ◌≤◌, true, false, length, Some, sym, ◌∙◌, ap, subst, arith}
+use Rattle.std.proofs.Common.{◌≡◌, ◌≤◌, true, false, List, length, Some, sym, ◌∙◌, ap, subst, arith}
 use Rattle.script_tree.specs.Grammar.{Tree}
 use Rattle.stored_units.specs.declared.units.Limit.TheVariants as limit
 use Rattle.stored_units.specs.Totals.{total_units}
@@ -8,16 +8,18 @@ use Rattle.kernel_model.specs.declared.answers.Refusal.{Refusal}
 use Rattle.kernel_model.specs.declared.answers.Refusal.TheVariants.{NoMemory, TaskLimit, StoreLimit}
 use Rattle.kernel_model.specs.Known.{Known, has_ended}
 use Rattle.kernel_model.specs.Invariants.{Inv}
-use Rattle.kernel_model.specs.Acts.{refused}
 use Rattle.kernel_model.specs.Limits.{stored, passed, IsRefusedFor}
 use Rattle.kernel_model.specs.Turns.{script_step, CarriesOut, Settles}
 use Rattle.kernel_model.proofs.Facts.{keep-script-step, keep-carried-out}
 use Rattle.kernel_model.proofs.KeepingTasks.{keep-settled}
 use Rattle.kernel_model.proofs.Passing.{passed-tasks, passed-stored}
 use Rattle.kernel_model.proofs.Totals.{calls-within, stored-within}
+use Rattle.kernel_model.specs.Telling.{HasToldBy}
 use Rattle.kernel_core.specs.Refused.{IsRefused}
+use Rattle.kernel_core.proofs.TurnsTold.{cut-tells}
 use Rattle.parsl_engine.specs.Runs.{without_losses, PassesLimit, RefusesFor}
-use Rattle.parsl_engine.proofs.Turning.{going-open, script-stays, callback-stays}
+use Rattle.parsl_engine.proofs.RunsTold.{told-err}
+use Rattle.parsl_engine.proofs.Turning.{going-accepts, going-open, script-stays, callback-stays}
 
 -- ---- a kernel past a limit is that of an evaluation past it
 
@@ -58,23 +60,25 @@ pub record IsStopped (w v : Known) (refusal : Refusal) : Type 0 where
   pub tree : v.tree ≡ w.tree
   pub unended : has_end v.past ≡ false
   pub cause : RefusesFor w.tree refusal
+  pub told : HasToldBy (Some refusal) w v
 
-stopped : (w v : Known) (told refusal : Refusal) → has_ended w ≡ false → v ≡ refused w told → RefusesFor w.tree refusal → IsStopped w v refusal
-stopped w v told refusal going after why = record {
-  tree = ap (λ (u : Known). u.tree) after;
-  unended = ap (λ (u : Known). has_end u.past) after ∙ going-open w going;
+stopped : (w v : Known) (Leaves : Known → Type 0) (refusal : Refusal) → has_ended w ≡ false → IsRefused w v Leaves refusal → RefusesFor w.tree refusal → IsStopped w v refusal
+stopped w v Leaves refusal going h why = record {
+  tree = ap (λ (u : Known). u.tree) h.after;
+  unended = ap (λ (u : Known). has_end u.past) h.after ∙ going-open w going;
   cause = why;
+  told = told-err w v refusal (cut-tells w v Leaves refusal (going-accepts w going) h) (ap (λ (u : Known). u.refusal) h.after);
 }
 
 pub script-stopped : (w v : Known) (refusal : Refusal) → has_ended w ≡ false → Inv w → IsRefused w v (λ u. u ≡ (script_step w).1) refusal → IsStopped w v refusal
-script-stopped w v refusal going inv h = stopped w v refusal refusal going h.after (cause w.tree (λ u. u ≡ (script_step w).1) refusal (script_leaves w inv going) h.cause)
+script-stopped w v refusal going inv h = stopped w v (λ u. u ≡ (script_step w).1) refusal going h (cause w.tree (λ u. u ≡ (script_step w).1) refusal (script_leaves w inv going) h.cause)
 
 pub callback-stopped : (w u v : Known) (refusal : Refusal) → u ≡ w → has_ended w ≡ false → Inv w → IsRefused u v (CarriesOut u) refusal → IsStopped w v refusal
 callback-stopped w u v refusal same going inv h =
     let here : IsRefused w v (CarriesOut w) refusal = subst (λ (x : Known). IsRefused x v (CarriesOut x) refusal) same h in
-    stopped w v refusal refusal going here.after (cause w.tree (CarriesOut w) refusal (callback_leaves w inv going) here.cause)
+    stopped w v (CarriesOut w) refusal going here (cause w.tree (CarriesOut w) refusal (callback_leaves w inv going) here.cause)
 
 pub settle-stopped : (w u v : Known) (refusal : Refusal) → u ≡ w → has_ended w ≡ false → Inv w → IsRefused u v (Settles u) refusal → IsStopped w v refusal
 settle-stopped w u v refusal same going inv h =
     let here : IsRefused w v (Settles w) refusal = subst (λ (x : Known). IsRefused x v (Settles x) refusal) same h in
-    stopped w v refusal refusal going here.after (cause w.tree (Settles w) refusal (settle_leaves w inv going) here.cause)
+    stopped w v (Settles w) refusal going here (cause w.tree (Settles w) refusal (settle_leaves w inv going) here.cause)

@@ -1,5 +1,6 @@
 -- How a call goes: what it asks of the outside, what it writes, and what its status says.
-use Rattle.std.specs.Prelude.{◌≡◌, ◌≢◌, ◌⊎◌, ℕ, ◌+◌, Bool, true, false, IsTrue, List, [], ◌∷◌, ◌++◌, take, decimal, option_map, codes, IfSome, None, Some}
+use Rattle.std.specs.Prelude.{◌≡◌, ◌≢◌, ◌⊎◌, ℕ, ◌+◌, Bool, true, false, IsTrue, List, [], ◌∷◌, ◌++◌, take, decimal, option_map, codes, IfSome, None, Some, Ok, Err}
+use Rattle.std.specs.declared.result.Result.{Result}
 use Rattle.std.specs.declared.option.Option.{Option}
 use Rattle.flow_base.specs.Causes.{Rose}
 use Rattle.flow_base.specs.Shelf.{ShelfState, Stand, ShelfCall}
@@ -15,7 +16,11 @@ use Rattle.parsl_engine.specs.declared.script.ScriptRefusal.TheVariants.{Parse, 
 use Rattle.parsl_engine.specs.declared.words.Command.{Command}
 use Rattle.stored_units.specs.declared.units.Limit.{Limit}
 use Rattle.stored_units.specs.declared.units.Limit.TheVariants as limit
-use Rattle.parsl_engine.specs.Output.{Prints, Refuses, Limits}
+use Rattle.parsl_engine.specs.declared.output.Output.{Output}
+use Rattle.parsl_engine.specs.declared.script.ScriptFault.{ScriptFault}
+use Rattle.parsl_engine.specs.Exits.{exit_of}
+use Rattle.parsl_engine.specs.Output.{Prints, Refuses, Limits, TellsOf, MayHaveTold}
+use Rattle.parsl_engine.specs.Tellings.{Ledgers, refusal_for}
 use Rattle.parsl_engine.specs.Words.{Meaning}
 
 -- ---- statuses and lines
@@ -96,27 +101,42 @@ pub record AddsCalls (expected : List (CallKind × List ℕ)) (old new : ShelfSt
 -- ---- a command on a script
 
 -- what was written of a command's output for a script's bytes: all, a part, or nothing
-pub record WritesPart (c : Command) (bytes : List ℕ) (tells : Bool) (out out' : SinkState) : Type 0 where
+pub record WritesPart (c : Command) (bytes : List ℕ) (tells : Bool) (out out' : SinkState) (told told' : Ledgers) : Type 0 where
   pub output : List ℕ
   pub raised : Bool
-  pub prints : Prints c bytes output raised
+  pub prints : Prints c bytes output raised told told'
   pub part : AddsPart tells out out' output
 
 -- all of it, where an exception ended main or not
-pub record WritesWhole (c : Command) (bytes : List ℕ) (raised : Bool) (tells : Bool) (out out' : SinkState) : Type 0 where
+pub record WritesWhole (c : Command) (bytes : List ℕ) (raised : Bool) (tells : Bool) (out out' : SinkState) (told told' : Ledgers) : Type 0 where
   pub output : List ℕ
-  pub prints : Prints c bytes output raised
+  pub prints : Prints c bytes output raised told told'
   pub whole : Adds tells out out' output
 
+-- how the printing of an output ends
+abbrev pub Wrote : Result Output ScriptFault → Exit → Bool → SinkState → SinkState → Type 0
+Wrote (Ok output) Done tells out out' = (output.raised ≡ false) × Adds tells out out' output.text.items
+Wrote (Ok output) Raised tells out out' = (output.raised ≡ true) × Adds tells out out' output.text.items
+Wrote (Ok output) Unwritten tells out out' = AddsPart tells out out' output.text.items × Rose out.faults out'.faults
+Wrote (Ok output) exit tells out out' = ⊥
+Wrote (Err fault) exit tells out out' = (exit ≡ exit_of fault) × (out' ≡ out)
+
 -- how the printing of a command's output ends
-abbrev pub Printed : Command → List ℕ → Exit → Bool → SinkState → SinkState → Type 0
-Printed c bytes Done tells out out' = WritesWhole c bytes false tells out out'
-Printed c bytes Raised tells out out' = WritesWhole c bytes true tells out out'
-Printed c bytes (Refused refusal) tells out out' = Refuses c bytes refusal × (out' ≡ out)
-Printed c bytes Unread tells out out' = ⊥
-Printed c bytes Unwritten tells out out' = WritesPart c bytes tells out out' × Rose out.faults out'.faults
-Printed c bytes (Limited l) tells out out' = Limits c bytes l × (out' ≡ out)
-Printed c bytes NoMemory tells out out' = out' ≡ out
+abbrev pub Printed : Command → List ℕ → Exit → Bool → SinkState → SinkState → Ledgers → Ledgers → Type 0
+Printed c bytes Done tells out out' told told' = WritesWhole c bytes false tells out out' told told'
+Printed c bytes Raised tells out out' told told' = WritesWhole c bytes true tells out out' told told'
+Printed c bytes (Refused refusal) tells out out' told told' = Refuses c bytes refusal × (out' ≡ out) × (told' ≡ told)
+Printed c bytes Unread tells out out' told told' = ⊥
+Printed c bytes Unwritten tells out out' told told' = WritesPart c bytes tells out out' told told' × Rose out.faults out'.faults
+Printed c bytes (Limited l) tells out out' told told' = Limits c bytes l × (out' ≡ out) × TellsOf c bytes (Some (refusal_for l)) told told'
+Printed c bytes NoMemory tells out out' told told' = (out' ≡ out) × MayHaveTold c bytes told told'
+
+-- what monitors were told, where no output says it
+abbrev pub ToldAt : Command → List ℕ → Exit → Ledgers → Ledgers → Type 0
+ToldAt c bytes (Refused refusal) told told' = told' ≡ told
+ToldAt c bytes (Limited l) told told' = TellsOf c bytes (Some (refusal_for l)) told told'
+ToldAt c bytes NoMemory told told' = MayHaveTold c bytes told told'
+ToldAt c bytes exit told told' = Unit {0}
 
 -- a limit ends the command
 abbrev pub IsLimited : Exit → Type 0
@@ -124,33 +144,35 @@ IsLimited (Limited l) = Unit {0}
 IsLimited _ = ⊥
 
 -- what an exit says where the script's bytes are these
-pub record Answers (c : Command) (bytes : List ℕ) (exit : Exit) (tells : Bool) (out out' : SinkState) : Type 0 where
+pub record Answers (c : Command) (bytes : List ℕ) (exit : Exit) (tells : Bool) (out out' : SinkState) (told told' : Ledgers) : Type 0 where
   -- the command's output, whole, where main ended without an exception
-  pub done : exit ≡ Done → WritesWhole c bytes false tells out out'
+  pub done : exit ≡ Done → WritesWhole c bytes false tells out out' told told'
   -- or by one
-  pub raised : exit ≡ Raised → WritesWhole c bytes true tells out out'
+  pub raised : exit ≡ Raised → WritesWhole c bytes true tells out out' told told'
   -- refused exactly where there is a cause, but for want of memory, and for that cause
   pub refused : (refusal : ScriptRefusal) → exit ≡ Refused refusal → Refuses c bytes refusal
   pub causes : (refusal : ScriptRefusal) → Refuses c bytes refusal → (exit ≡ Refused refusal) ⊎ (exit ≡ NoMemory)
   -- limited exactly where the evaluation passes a limit, but for want of memory, and by one that it passes
   pub limited : (l : Limit) → exit ≡ Limited l → Limits c bytes l
   pub limits : (l : Limit) → Limits c bytes l → IsLimited exit ⊎ (exit ≡ NoMemory)
-  -- a fault of out
-  pub unwritten : exit ≡ Unwritten → Rose out.faults out'.faults
+  -- a part of the output, for a fault of out
+  pub unwritten : exit ≡ Unwritten → WritesPart c bytes tells out out' told told' × Rose out.faults out'.faults
   -- for reads alone
   pub not_unread : exit ≢ Unread
   -- nothing but a part of the output is ever written
-  pub part : (out' ≡ out) ⊎ WritesPart c bytes tells out out'
+  pub part : (out' ≡ out) ⊎ WritesPart c bytes tells out out' told told'
+  -- what monitors were told: with an output, as it says
+  pub told_at : ToldAt c bytes exit told told'
 
 -- a command on the script of this name
-pub record Course (c : Command) (name : List ℕ) (exit : Exit) (shelf_tells out_tells : Bool) (shelf shelf' : ShelfState) (out out' : SinkState) : Type 0 where
+pub record Course (c : Command) (name : List ℕ) (exit : Exit) (shelf_tells out_tells : Bool) (shelf shelf' : ShelfState) (out out' : SinkState) (told told' : Ledgers) : Type 0 where
   -- the script's bytes, where the read gave them
   pub given : Option (List ℕ)
   pub gave : IfSome given (WasRead shelf_tells shelf name)
-  pub answers : IfSome given (λ bytes. Answers c bytes exit out_tells out out')
+  pub answers : IfSome given (λ bytes. Answers c bytes exit out_tells out out' told told')
   -- a read that failed, or want of memory
   pub not_given : given ≡ None → (exit ≡ Unread) ⊎ (exit ≡ NoMemory)
-  pub nothing : given ≡ None → out' ≡ out
+  pub nothing : given ≡ None → (out' ≡ out) × (told' ≡ told)
   -- unread only where the count rose in the read, and else it stays
   pub unread : exit ≡ Unread → Rose shelf.faults shelf'.faults
   pub kept : exit ≢ Unread → shelf'.faults ≡ shelf.faults
@@ -160,15 +182,16 @@ pub record Course (c : Command) (name : List ℕ) (exit : Exit) (shelf_tells out
   pub one_read : IfSome given (λ bytes. IsTrue shelf_tells → shelf'.calls ≡ shelf.calls ++ read_of name ∷ [])
 
 -- an order is carried out: the status and the line are those of an exit: 0, 1, 3, 6, 7, 10 or 12
-pub record Carries (m : Meaning) (status : ℕ) (shelf_tells out_tells err_tells : Bool) (shelf shelf' : ShelfState) (out out' err err' : SinkState) : Type 0 where
+pub record Carries (m : Meaning) (status : ℕ) (shelf_tells out_tells err_tells : Bool) (shelf shelf' : ShelfState) (out out' err err' : SinkState) (told told' : Ledgers) : Type 0 where
   pub exit : Exit
   pub status_is : status ≡ status_of exit
   pub line : AddsUnlessFailed err_tells err err' (line_of m.1 exit)
-  pub course : Course m.0 m.1 exit shelf_tells out_tells shelf shelf' out out'
+  pub course : Course m.0 m.1 exit shelf_tells out_tells shelf shelf' out out' told told'
 
 -- words that mean nothing
-pub record NoReading (status : ℕ) (tells : Bool) (shelf shelf' : ShelfState) (out out' err err' : SinkState) : Type 0 where
+pub record NoReading (status : ℕ) (tells : Bool) (shelf shelf' : ShelfState) (out out' err err' : SinkState) (told told' : Ledgers) : Type 0 where
   pub refused : status ≡ 2
   pub shelf_kept : shelf' ≡ shelf
   pub out_kept : out' ≡ out
+  pub told_kept : told' ≡ told
   pub line : AddsUnlessFailed tells err err' words_line

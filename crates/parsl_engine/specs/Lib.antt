@@ -6,3 +6,4 @@ pub mod Words
 pub mod Orders
 pub mod Exits
 pub mod Course
+pub mod Tellings

@@ -1,5 +1,8 @@
 -- What a whole run gives.
-use Rattle.std.specs.Prelude.{◌≡◌, ◌<◌, Bool, true, false, List, length, IfOk}
+use Rattle.std.specs.Prelude.{◌≡◌, ◌<◌, Bool, true, false, List, length, IfOk, Option, Some, None, Ok, Err}
+use Rattle.std.specs.declared.result.Result.{Result}
+use Rattle.std.specs.declared.alloc.AllocError.{AllocError}
+use Rattle.flow_base.specs.declared.outcome.Evaluation.{Evaluation}
 use Rattle.script_tree.specs.Grammar.{Tree}
 use Rattle.event_log.specs.declared.entry.Entry.{Entry}
 use Rattle.flow_meaning.specs.Evaluations.{evaluation, no_losses}
@@ -15,7 +18,6 @@ use Rattle.kernel_model.specs.declared.answers.Refusal.TheVariants as refusal
 use Rattle.kernel_model.specs.Known.{no_retries}
 use Rattle.parsl_engine.specs.declared.run.PartEnd.{PartEnd}
 use Rattle.parsl_engine.specs.declared.run.PartEnd.TheVariants.{Ended, Refused}
-use Rattle.parsl_engine.specs.declared.run.RunEnd.{RunEnd}
 
 -- the sequential evaluation of a script without losses
 abbrev pub without_losses : Tree → Sequential
@@ -27,9 +29,9 @@ pub record IsWholeLog (tree : Tree) (log : List Entry) : Type 0 where
   pub complete : IsComplete (history_of log)
 
 -- a run that ended has a legal and complete log, and gives the sequential evaluation of its script, which is within the limits
-pub record HasRun (tree : Tree) (r : RunEnd) : Type 0 where
-  pub log : IsWholeLog tree r.history
-  pub gives : IfOk r.evaluation (λ e. e ≡ evaluation tree)
+pub record HasRun (tree : Tree) (gave : Result Evaluation AllocError) (log : List Entry) : Type 0 where
+  pub whole : IsWholeLog tree log
+  pub gives : IfOk gave (λ e. e ≡ evaluation tree)
   pub within : IsWithinLimits (without_losses tree)
 
 -- the evaluation has more calls, or stores more units, than a run may
@@ -49,9 +51,10 @@ pub record IsCutShort (tree : Tree) (log : List Entry) (r : Refusal) : Type 0 wh
   pub unended : has_end (history_of log) ≡ false
   pub cause : RefusesFor tree r
 
-abbrev pub Goes : Tree → RunEnd → PartEnd → Type 0
-Goes tree r Ended = HasRun tree r
-Goes tree r (Refused refused) = IsCutShort tree r.history refused
+-- a run that came to its end so gave this evaluation and this log
+abbrev pub IsRun : Tree → PartEnd → Result Evaluation AllocError → List Entry → Type 0
+IsRun tree Ended gave log = HasRun tree gave log
+IsRun tree (Refused refused) gave log = IsCutShort tree log refused
 
 -- whether the end stands
 abbrev pub is_ended : PartEnd → Bool
@@ -63,5 +66,12 @@ abbrev pub EndsFor : Tree → PartEnd → Type 0
 EndsFor tree Ended = Unit {0}
 EndsFor tree (Refused refused) = RefusesFor tree refused
 
-abbrev pub IsRun : Tree → RunEnd → Type 0
-IsRun tree r = Goes tree r r.end
+-- what refused a run
+abbrev pub refusal_of : PartEnd → Option Refusal
+refusal_of Ended = None
+refusal_of (Refused refused) = Some refused
+
+-- what refused a turn
+abbrev pub refused_by : {A : Type 0} → Result A Refusal → Option Refusal
+refused_by (Ok a) = None
+refused_by (Err refused) = Some refused

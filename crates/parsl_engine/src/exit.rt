@@ -6,7 +6,7 @@ ghost use Rattle.flow_base.specs.Sink.{AddsUnlessFailed};
 ghost use Rattle.parsl_engine.specs.Course.{status_of, line_of, read_line, refusal_line, limit_line, fault_line};
 
 use crate::script::{ScriptFault, ScriptRefusal};
-use flow_base::{Failed, Sink, Word, write_whole};
+use flow_base::{Failed, ShelfFault, Sink, Word, write_whole};
 use itoa::Buffer;
 use stored_units::Limit;
 
@@ -40,6 +40,20 @@ impl From<ScriptFault> for Exit {
             ScriptFault::Refused(refusal) => Exit::Refused(refusal),
             ScriptFault::Limited(limit) => Exit::Limited(limit),
             ScriptFault::NoMemory => Exit::NoMemory,
+        }
+    }
+}
+
+impl From<ShelfFault> for Exit {
+    ghost use Rattle.std.specs.Prelude.{◌≡◌};
+    ghost use Rattle.parsl_engine.specs.Exits.{exit_unread};
+
+    ghost from_gives = { λ fault exit. exit ≡ exit_unread fault };
+
+    fn from(fault: ShelfFault) -> Exit {
+        match fault {
+            ShelfFault::Failed => Exit::Unread,
+            ShelfFault::NoMemory => Exit::NoMemory,
         }
     }
 }

@@ -1,15 +1,18 @@
 //! What a command prints for a script.
 
-ghost use Rattle.std.specs.Prelude.{◌≡◌, false};
+ghost use Rattle.std.specs.Prelude.{◌≡◌, false, true, map};
 ghost use Rattle.parsl_engine.specs.Scripts.{IsOfText};
-ghost use Rattle.parsl_engine.specs.Output.{Produces, Gives, Tells, is_raised};
+ghost use Rattle.parsl_engine.specs.Output.{Produces, Gives, TellsEnd, is_raised};
+ghost use Rattle.parsl_engine.specs.Tellings.{Ledgers};
+ghost use Rattle.parsl_engine.specs.Words.{is_plain};
 ghost use Rattle.parsl_engine.specs.declared.words.Command.TheVariants.{Run, Seq};
 
 use crate::run::{PartEnd, RunEnd, run_alone};
 use crate::script::{ScriptFault, ScriptRefusal, is_uncached, read_script};
 use crate::words::Command;
+use dependency_graph::Monitor;
 use flow_base::Ending;
-use kernel_core::{Ledger, Opening, Refusal};
+use kernel_core::{Opening, Refusal};
 use log_lines::lines::texts_have_names;
 use log_lines::{in_range, reports_are_read_back};
 use run_report::{head, report};
@@ -17,6 +20,7 @@ use script_eval::{EvalFault, Losses, evaluate};
 use script_print::print;
 use script_tree::checked::Checked;
 use std::alloc::{AllocError, Global};
+use std::mem;
 use std::sync::Arc;
 use stored_units::Limit;
 
@@ -27,13 +31,14 @@ pub struct Output {
     pub raised: bool,
 }
 
-/// The output of a command for the script that has this text.
-pub fn output_of(alloc: Global, command: Command, bytes: &[u8]) -> Result<Output, ScriptFault>
-    ensures { Produces command bytes.now result }
+/// The output of a command that runs nothing, for the script that has this text.
+pub fn plain_output(alloc: Global, command: Command, bytes: &[u8]) -> Result<Output, ScriptFault>
+    requires { is_plain command ≡ true }
+    ensures { (told : Ledgers) → Produces command bytes.now result told told }
 {
     let script = read_script(alloc, bytes)?;
     match command {
-        Command::Run => run_output(alloc, script),
+        Command::Run => unreachable!(),
         Command::Seq => head_output(alloc, &script),
         Command::Check => Ok(text_alone(Vec::from_slice(alloc, b"ok\n")?)),
         Command::Format => {
@@ -41,6 +46,18 @@ pub fn output_of(alloc: Global, command: Command, bytes: &[u8]) -> Result<Output
             Ok(text_alone(print(alloc, tree.apps(), tree.main())?))
         }
     }
+}
+
+/// The report of a run of the script that has this text. Each monitor is told of each settlement.
+pub fn run_output<M: Monitor>(
+    alloc: Global,
+    bytes: &[u8],
+    monitors: &mut Vec<M>,
+) -> Result<Output, ScriptFault>
+    ensures { Produces Run bytes.now result (map M.told monitors.old.items) (map M.told monitors.new.items) }
+{
+    let script = read_script(alloc, bytes)?;
+    report_output(alloc, script, monitors)
 }
 
 fn text_alone(text: Vec<u8>) -> Output
@@ -53,9 +70,13 @@ fn text_alone(text: Vec<u8>) -> Output
 }
 
 // The report of a run of the script.
-fn run_output(alloc: Global, script: Checked) -> Result<Output, ScriptFault>
+fn report_output<M: Monitor>(
+    alloc: Global,
+    script: Checked,
+    monitors: &mut Vec<M>,
+) -> Result<Output, ScriptFault>
     requires { IsOfText script }
-    ensures { Gives Run script result }
+    ensures { Gives Run script result (map M.told monitors.old.items) (map M.told monitors.new.items) }
 {
     if !is_uncached(&script) {
         return Err(ScriptFault::Refused(ScriptRefusal::NotYet));
@@ -63,16 +84,19 @@ fn run_output(alloc: Global, script: Checked) -> Result<Output, ScriptFault>
     let Ok(script) = Arc::new(alloc, script) else {
         return Err(ScriptFault::NoMemory);
     };
-    let run = run_alone::<Ledger>(alloc, Opening { script });
+    let watching = mem::replace(monitors, Vec::new(alloc));
+    let run = run_alone(alloc, Opening { script }, watching);
     in_range(run.history.as_slice());
     texts_have_names();
     reports_are_read_back();
-    whole_report(alloc, &run)
+    let output = whole_report(alloc, &run);
+    *monitors = run.monitors;
+    output
 }
 
 // The report of a run that ended.
-fn whole_report(alloc: Global, run: &RunEnd) -> Result<Output, ScriptFault>
-    ensures { Tells run.now result }
+fn whole_report<M: Monitor>(alloc: Global, run: &RunEnd<M>) -> Result<Output, ScriptFault>
+    ensures { TellsEnd run.now.end run.now.evaluation run.now.history result }
 {
     match run.end {
         PartEnd::Ended => match &run.evaluation {
@@ -91,7 +115,7 @@ fn whole_report(alloc: Global, run: &RunEnd) -> Result<Output, ScriptFault>
 // The head of the script's sequential evaluation.
 fn head_output(alloc: Global, script: &Checked) -> Result<Output, ScriptFault>
     requires { IsOfText script.now }
-    ensures { Gives Seq script.now result }
+    ensures { (told : Ledgers) → Gives Seq script.now result told told }
 {
     if !is_uncached(script) {
         return Err(ScriptFault::Refused(ScriptRefusal::NotYet));

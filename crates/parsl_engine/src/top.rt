@@ -1,14 +1,17 @@
 //! The top calls.
 
-ghost use Rattle.std.specs.Prelude.{◌≡◌, None, IfSome, true};
-ghost use Rattle.parsl_engine.specs.Course.{Printed, Course, Carries, NoReading};
+ghost use Rattle.std.specs.Prelude.{◌≡◌, None, IfSome, map, true};
+ghost use Rattle.parsl_engine.specs.Course.{Wrote, Course, Carries, NoReading};
+ghost use Rattle.parsl_engine.specs.Tellings.{Ledgers};
 ghost use Rattle.parsl_engine.specs.Words.{meaning, is_plain};
 ghost use Rattle.parsl_engine.specs.declared.words.Command.TheVariants.{Run};
 
 use crate::exit::Exit;
-use crate::output::output_of;
+use crate::output::{Output, plain_output, run_output};
+use crate::script::ScriptFault;
 use crate::words::{Command, Order, read_words};
-use flow_base::{Shelf, ShelfFault, Sink, Words, write_whole};
+use dependency_graph::Monitor;
+use flow_base::{Shelf, Sink, Word, Words, write_whole};
 use std::alloc::Global;
 
 /// The longest script, and one byte more.
@@ -17,11 +20,11 @@ const READ_LIMIT: u64 = 1_048_577;
 /// The exit status where the words mean nothing.
 const WORDS_REFUSED: u8 = 2;
 
-/// Prints the output of a command for the script that has this text.
-fn print<O: Sink>(alloc: Global, command: Command, bytes: &[u8], out: &mut O) -> Exit
-    ensures { Printed command bytes.now result O.tells (O.state out.old) (O.state out.new) }
+/// Prints an output, where there is one.
+fn print<O: Sink>(output: Result<Output, ScriptFault>, out: &mut O) -> Exit
+    ensures { Wrote output result O.tells (O.state out.old) (O.state out.new) }
 {
-    match output_of(alloc, command, bytes) {
+    match output {
         Ok(output) => match write_whole(out, &output.text) {
             Ok(()) if output.raised => Exit::Raised,
             Ok(()) => Exit::Done,
@@ -31,31 +34,49 @@ fn print<O: Sink>(alloc: Global, command: Command, bytes: &[u8], out: &mut O) ->
     }
 }
 
+/// Reads the script of this name, runs it, and prints the report.
+fn run<S: Shelf, O: Sink, M: Monitor>(
+    alloc: Global,
+    script: &Word,
+    shelf: &mut S,
+    out: &mut O,
+    monitors: &mut Vec<M>,
+) -> Exit
+    ensures { Course Run script.now result S.tells O.tells (S.state shelf.old) (S.state shelf.new) (O.state out.old) (O.state out.new) (map M.told monitors.old.items) (map M.told monitors.new.items) }
+{
+    match shelf.read(script.as_str(), READ_LIMIT) {
+        Ok(bytes) => print(run_output(alloc, &bytes, monitors), out),
+        Err(fault) => Exit::from(fault),
+    }
+}
+
 /// Reads the script of an order, and prints the command's output for it.
-fn carry_out<S: Shelf, O: Sink>(alloc: Global, order: Order, shelf: &mut S, out: &mut O) -> Exit
-    ensures { Course order.entry.command order.entry.script.now result S.tells O.tells (S.state shelf.old) (S.state shelf.new) (O.state out.old) (O.state out.new) }
+fn tell<S: Shelf, O: Sink>(alloc: Global, order: Order, shelf: &mut S, out: &mut O) -> Exit
+    requires { is_plain order.command ≡ true }
+    ensures { (told : Ledgers) → Course order.entry.command order.entry.script.now result S.tells O.tells (S.state shelf.old) (S.state shelf.new) (O.state out.old) (O.state out.new) told told }
 {
     match shelf.read(order.script.as_str(), READ_LIMIT) {
-        Ok(bytes) => print(alloc, order.command, &bytes, out),
-        Err(ShelfFault::Failed) => Exit::Unread,
-        Err(ShelfFault::NoMemory) => Exit::NoMemory,
+        Ok(bytes) => print(plain_output(alloc, order.command, &bytes), out),
+        Err(fault) => Exit::from(fault),
     }
 }
 
 /// Carries out an order to run a script, and gives the exit status: 0 done, 1 done where an exception
 /// ended main, 3 a script that is refused, 6 a script that wasn't read, 7 a report that wasn't written,
 /// 10 a script that passes a limit of a run, 12 want of memory. Each but 0 and 1 has a line on `err`.
-pub fn run_top<S: Shelf, O: Sink, E: Sink>(
+/// Each monitor is told of each settlement of the run; whatever the status, all are back in `monitors`.
+pub fn run_top<S: Shelf, O: Sink, E: Sink, M: Monitor>(
     alloc: Global,
     order: Order,
     shelf: &mut S,
     out: &mut O,
     err: &mut E,
+    monitors: &mut Vec<M>,
 ) -> u8
     requires { order.command ≡ Run }
-    ensures { Carries (order.entry.command, order.entry.script.now) result S.tells O.tells E.tells (S.state shelf.old) (S.state shelf.new) (O.state out.old) (O.state out.new) (E.state err.old) (E.state err.new) }
+    ensures { Carries (order.entry.command, order.entry.script.now) result S.tells O.tells E.tells (S.state shelf.old) (S.state shelf.new) (O.state out.old) (O.state out.new) (E.state err.old) (E.state err.new) (map M.told monitors.old.items) (map M.told monitors.new.items) }
 {
-    carry_out(alloc, order, shelf, out).finish(order.script, err)
+    run(alloc, order.script, shelf, out, monitors).finish(order.script, err)
 }
 
 /// Carries out an order of a command that waits for nobody, and returns the exit status, as `run_top`
@@ -69,30 +90,32 @@ pub fn plain_top<S: Shelf, O: Sink, E: Sink>(
     err: &mut E,
 ) -> u8
     requires { is_plain order.command ≡ true }
-    ensures { Carries (order.entry.command, order.entry.script.now) result S.tells O.tells E.tells (S.state shelf.old) (S.state shelf.new) (O.state out.old) (O.state out.new) (E.state err.old) (E.state err.new) }
+    ensures { (told : Ledgers) → Carries (order.entry.command, order.entry.script.now) result S.tells O.tells E.tells (S.state shelf.old) (S.state shelf.new) (O.state out.old) (O.state out.new) (E.state err.old) (E.state err.new) told told }
 {
-    carry_out(alloc, order, shelf, out).finish(order.script, err)
+    tell(alloc, order, shelf, out).finish(order.script, err)
 }
 
 /// Carries out what the words of a command line mean, without the program's name, and gives the exit
-/// status: 2 words without a meaning, or else that of the order.
-pub fn parsl_top<S: Shelf, O: Sink, E: Sink>(
+/// status: 2 words without a meaning, or else that of the order. The monitors are told of the settlements
+/// of a run; whatever the status, all are back in `monitors`, in their order.
+pub fn parsl_top<S: Shelf, O: Sink, E: Sink, M: Monitor>(
     alloc: Global,
     words: &Words,
     shelf: &mut S,
     out: &mut O,
     err: &mut E,
+    monitors: &mut Vec<M>,
 ) -> u8
     ensures words { result ≡ 2 → meaning words.now ≡ None }
-    ensures no_reading { meaning words.now ≡ None → NoReading result E.tells (S.state shelf.old) (S.state shelf.new) (O.state out.old) (O.state out.new) (E.state err.old) (E.state err.new) }
-    ensures carries { IfSome (meaning words.now) (λ m. Carries m result S.tells O.tells E.tells (S.state shelf.old) (S.state shelf.new) (O.state out.old) (O.state out.new) (E.state err.old) (E.state err.new)) }
+    ensures no_reading { meaning words.now ≡ None → NoReading result E.tells (S.state shelf.old) (S.state shelf.new) (O.state out.old) (O.state out.new) (E.state err.old) (E.state err.new) (map M.told monitors.old.items) (map M.told monitors.new.items) }
+    ensures carries { IfSome (meaning words.now) (λ m. Carries m result S.tells O.tells E.tells (S.state shelf.old) (S.state shelf.new) (O.state out.old) (O.state out.new) (E.state err.old) (E.state err.new) (map M.told monitors.old.items) (map M.told monitors.new.items)) }
 {
     let Some(order) = read_words(words) else {
         let _ = write_whole(err, b"parsl: words\n");
         return WORDS_REFUSED;
     };
     match order.command {
-        Command::Run => run_top(alloc, order, shelf, out, err),
+        Command::Run => run_top(alloc, order, shelf, out, err, monitors),
         Command::Seq | Command::Check | Command::Format => plain_top(alloc, order, shelf, out, err),
     }
 }

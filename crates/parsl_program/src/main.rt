@@ -3,7 +3,7 @@
 
 use flow_base::{HostShelf, HostSink, Word, Words, write_whole};
 use parsl_engine::exit::Exit;
-use parsl_engine::parsl_top;
+use parsl_engine::{Ledger, parsl_top};
 use std::env;
 use std::io::{self, ErrorKind};
 use std::process::ExitCode;
@@ -32,5 +32,6 @@ fn main(rt: HostRuntime) -> ExitCode {
         Err(_) => Words::new(alloc),
     };
     let mut shelf = HostShelf::new(alloc, rt);
-    ExitCode::from(parsl_top(alloc, &words, &mut shelf, &mut out, &mut err))
+    let mut monitors: Vec<Ledger> = Vec::new(alloc);
+    ExitCode::from(parsl_top(alloc, &words, &mut shelf, &mut out, &mut err, &mut monitors))
 }

@@ -8,8 +8,12 @@ mod joins;
 #[cfg(test)]
 mod limits;
 #[cfg(test)]
+mod monitors;
+#[cfg(test)]
 mod runs;
 #[cfg(test)]
 mod scripts;
+#[cfg(test)]
+mod shapes;
 #[cfg(test)]
 mod whole;

@@ -1,9 +1,21 @@
-use Rattle.kernel_core.proofs.Accepting.{callback-refused}
-use Rattle.kernel_core.proofs.MainKept.{callback-keeps, keeps-stands}
+use Rattle.std.proofs.Common.{ap}
+use Rattle.kernel_model.specs.Acts.{retold}
+use Rattle.kernel_model.specs.Known.{Known}
+use Rattle.kernel_core.proofs.MainKept.{callback-keeps}
+use Rattle.kernel_core.proofs.Turning.{turn-follows, callback-refused-so}
 use Rattle.kernel_core.proofs.kernel.Kernel.callback_turn.Goals as goal
+use Rattle.kernel_core.proofs.kernel.Kernel.callback_turn.Goals.{in-Ok, in-Err}
 
 pub invariant_of-self : goal.invariant_of-self
-invariant_of-self g c = keeps-stands c.self.inside.main c.self.inside.state _ (callback-keeps c.self.inside.state _ c.in-Ok.did c.in-Ok.ensures.turn) c.self.invariant
+invariant_of-self g c =
+    elim c.match-carry_out.branch [
+      | in-Ok w ↦ rw w.self-inside-is (turn-follows c.self.inside.agenda c.carry_out.new.self c.self.inside.main c.self.inside.state c.carry_out.new.state (callback-keeps _ _ _ w.in-Ok.ensures.turn) c.self.invariant w.in-Ok.ensures.serves)
+      | in-Err w ↦ rw w.self-inside-is (λ none. absurd (let e = ap (λ (s : Known). s.refusal) w.refuse.ensures in cc))
+    ]
 
-pub returns-in-Err-clause-refused : goal.returns-in-Err-clause-refused
-returns-in-Err-clause-refused g c = callback-refused c.args.self.now _ _ _ c.in-Err.refusal c.self.view_is c.in-Err.ensures.err c.refuse.ensures c.in-Err.ensures.refused
+pub returns-clause-refused : goal.returns-clause-refused
+returns-clause-refused g c =
+    elim c.match-carry_out.branch [
+      | in-Ok w ↦ rw w.result-is tt
+      | in-Err w ↦ rw (w.result-is, w.self-inside-is) (callback-refused-so _ c.args.self.now _ _ _ c.self.view_is w.in-Err.ensures.err (ap (retold c.carry_out.new.self.graph.told) w.refuse.ensures))
+    ]

@@ -1,7 +1,8 @@
-use Rattle.std.proofs.Common.{subst}
-use Rattle.kernel_core.specs.Views.{IsFact}
-use Rattle.kernel_core.proofs.Promising.{holds}
+use Rattle.kernel_core.proofs.Promising.{holds, seen-fact}
 use Rattle.kernel_core.proofs.kernel.Kernel.facts.Goals as goal
 
+pub returns-clause-fact : goal.returns-clause-fact
+returns-clause-fact g c = seen-fact c.self.inside.state c.args.self.now c.self.inside.agenda.graph.told c.self.view_is c.facts.ensures.fact
+
 pub returns-clause-holds : goal.returns-clause-holds
-returns-clause-holds g c = holds c.args.self.now (subst IsFact c.self.view_is c.facts.ensures.fact)
+returns-clause-holds g c = holds c.args.self.now (seen-fact c.self.inside.state c.args.self.now c.self.inside.agenda.graph.told c.self.view_is c.facts.ensures.fact)

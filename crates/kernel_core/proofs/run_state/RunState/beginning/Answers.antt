@@ -11,7 +11,7 @@ use Rattle.kernel_core.proofs.TurnsOfTasks.{begins-with}
 use Rattle.kernel_core.proofs.run_state.RunState.beginning.Goals as goal
 
 pub returns : goal.returns
-returns g c =
+returns c =
     let w = c.args.self.now in
     let k = c.args.k in
     let s = shows _ w c.self.inside.tasks.items c.self.view_is refl refl in

@@ -7,7 +7,7 @@ use Rattle.kernel_core.proofs.RunReadings.{shows, IsOfJob, running-is}
 use Rattle.kernel_core.proofs.run_state.RunState.is_job.Goals as goal
 
 pub returns-then-same_names : goal.returns-then-same_names
-returns-then-same_names g c =
+returns-then-same_names c =
     let state : c.index.result.now.record.status ≡ status.Running = search rules in
     let attempt : c.index.result.now.record.attempts ≡ c.job.inside.attempt = search rules in
     let manager : c.job.inside.manager ≡ 1 = search rules in

@@ -3,7 +3,7 @@ use Rattle.kernel_core.proofs.RunReadings.{shows, job-is}
 use Rattle.kernel_core.proofs.run_state.RunState.job.Goals as goal
 
 pub returns : goal.returns
-returns g c =
+returns c =
     let s = shows _ c.args.self.now c.self.inside.tasks.items c.self.view_is refl refl in
     let given = c.as_slice.ensures ∙ c.arguments.ensures in
     let path = c.in_ok-copy.ensures ∙ c.path.ensures in

@@ -3,7 +3,7 @@ use Rattle.kernel_core.proofs.Opened.{begins-sound, begins-indexed}
 use Rattle.kernel_core.proofs.run_state.RunState.new.Goals as goal
 
 pub invariant_of-result : goal.invariant_of-result
-invariant_of-result g c = (
+invariant_of-result c = (
   begins-sound _ _ c.new.result.items c.new-3.result.items c.new-4.result.items c.requires c.new.ensures.items c.new-3.ensures.items c.new-4.ensures.items,
   begins-indexed _ _ c.new.result.items c.new-3.result.items c.new-4.result.items c.new-2.result c.new.ensures.items c.new-4.ensures.items c.new-2.ensures,
   omega (arith, c.new-4.ensures.len),

@@ -1,38 +1,38 @@
-use Rattle.std.proofs.Common.{map, refl, arith, ◌∙◌}
+use Rattle.std.proofs.Common.{[], refl, arith, ◌∙◌}
 use Rattle.std.specs.Arc.{arc_value}
 use Rattle.kernel_core.proofs.MainWrites.{Writes, adds-few, submit-new, submit-view, submit-sound, submit-indexed}
 use Rattle.kernel_core.proofs.run_state.RunState.submit.Goals as goal
 
 pub invariant_of-self : goal.invariant_of-self
-invariant_of-self g c = rw c.in_err-reserve.ensures.items c.self.invariant
+invariant_of-self c = rw c.in_err-reserve.ensures.items c.self.invariant
 
 pub invariant_of-self-in_err-reserve-2 : goal.invariant_of-self-in_err-reserve-2
-invariant_of-self-in_err-reserve-2 g c = rw (c.in_err-reserve-2.ensures.items, c.in_ok-reserve.ensures.items) c.self.invariant
+invariant_of-self-in_err-reserve-2 c = rw (c.in_err-reserve-2.ensures.items, c.in_ok-reserve.ensures.items) c.self.invariant
 
 pub invariant_of-self-in_err-reserve-3 : goal.invariant_of-self-in_err-reserve-3
-invariant_of-self-in_err-reserve-3 g c =
+invariant_of-self-in_err-reserve-3 c =
     rw (c.in_err-reserve-3.ensures.items, c.in_err-reserve-3.ensures.len, c.in_err-reserve-3.ensures.err, c.in_ok-reserve-2.ensures.items, c.in_ok-reserve.ensures.items) c.self.invariant
 
 pub invariant_of-self-in_err-add : goal.invariant_of-self-in_err-add
-invariant_of-self-in_err-add g c = (
+invariant_of-self-in_err-add c = (
   rw (c.in_ok-reserve.ensures.items, c.in_ok-reserve-2.ensures.items, c.in_ok-reserve-3.ensures.items) c.self.invariant.0,
   rw (c.in_err-add.ensures.err, c.in_ok-reserve.ensures.items, c.in_ok-reserve-2.ensures.items, c.in_ok-reserve-3.ensures.items) c.self.invariant.1,
   omega (arith, c.in_ok-reserve-3.ensures.ok, c.in_ok-reserve-3.ensures.len, c.self.invariant.2),
 )
 
 pub add-requires : goal.add-requires
-add-requires g c =
+add-requires c =
     let k = c.self.inside in
     submit-new _ c.args.self.now k.places k.mains c.args.units c.args.app c.args.arguments c.args.names c.args.path c.self.view_is c.self.invariant.0.fact c.self.invariant.1 c.requires.adds
 
 pub overflow_add-self : goal.overflow_add-self
-overflow_add-self g c =
+overflow_add-self c =
     let k = c.self.inside in
     let few = adds-few _ c.args.self.now k.places k.mains c.args.units _ c.args.path c.self.view_is c.self.invariant.1 c.requires.adds in
     omega (arith, few)
 
 pub invariant_of-self-2 : goal.invariant_of-self-2
-invariant_of-self-2 g c =
+invariant_of-self-2 c =
     let k = c.self.inside in
     let writes : Writes (arc_value k.script).tree k.tasks.items c.args.app c.args.arguments c.args.names c.args.path c.len-k.result c.pending.new.self c.in_ok-submitted.submitted c.in_ok-name.name = record {
       number = omega (arith, c.len-k.ensures);
@@ -40,16 +40,16 @@ invariant_of-self-2 g c =
       copied = c.in_ok-submitted.ensures;
       named = rw (← c.deref.ensures, ← c.script.ensures.script, ← c.apps.ensures.apps) c.in_ok-name.ensures;
     } in
-    let view = submit-view _ (arc_value k.script).tree k.tasks.items k.steps.items k.arrived k.ending k.log.items k.refusal (map g.M.Monitor.told k.monitors.items) k.running k.stored c.args.units c.args.app c.args.arguments c.args.names c.args.path c.len-k.result c.pending.new.self c.in_ok-submitted.submitted c.in_ok-name.name c.self.invariant.0 c.self.view_is c.requires.adds writes in (
+    let view = submit-view _ (arc_value k.script).tree k.tasks.items k.steps.items k.arrived k.ending k.log.items k.refusal [] k.running k.stored c.args.units c.args.app c.args.arguments c.args.names c.args.path c.len-k.result c.pending.new.self c.in_ok-submitted.submitted c.in_ok-name.name c.self.invariant.0 c.self.view_is c.requires.adds writes in (
       rw (c.push_reserved.ensures.items, c.push_reserved-2.ensures.items, c.push_reserved-3.ensures.items, c.in_ok-reserve.ensures.items, c.in_ok-reserve-2.ensures.items, c.in_ok-reserve-3.ensures.items)
-          (submit-sound _ (arc_value k.script).tree k.tasks.items k.steps.items k.arrived k.ending k.log.items k.refusal (map g.M.Monitor.told k.monitors.items) k.running k.stored c.args.units c.args.app c.args.arguments c.args.names c.args.path c.len-k.result c.pending.new.self c.in_ok-submitted.submitted c.in_ok-name.name c.self.invariant.0 c.self.view_is c.requires.asks c.requires.adds writes),
+          (submit-sound _ (arc_value k.script).tree k.tasks.items k.steps.items k.arrived k.ending k.log.items k.refusal [] k.running k.stored c.args.units c.args.app c.args.arguments c.args.names c.args.path c.len-k.result c.pending.new.self c.in_ok-submitted.submitted c.in_ok-name.name c.self.invariant.0 c.self.view_is c.requires.asks c.requires.adds writes),
       rw (c.push_reserved.ensures.items, c.push_reserved-2.ensures.items, c.push_reserved-3.ensures.items, c.in_ok-reserve.ensures.items, c.in_ok-reserve-2.ensures.items, c.in_ok-reserve-3.ensures.items)
           (submit-indexed _ c.args.self.now _ k.places c.add.new.self k.mains c.args.units c.args.app c.args.arguments c.args.names c.args.path c.self.view_is c.self.invariant.1 c.requires.adds c.in_ok-add.ensures.added view),
       omega (arith, c.in_ok-reserve-3.ensures.ok),
     )
 
 pub returns-clause-ok : goal.returns-clause-ok
-returns-clause-ok g c =
+returns-clause-ok c =
     let k = c.self.inside in
     let writes : Writes (arc_value k.script).tree k.tasks.items c.args.app c.args.arguments c.args.names c.args.path c.len-k.result c.pending.new.self c.in_ok-submitted.submitted c.in_ok-name.name = record {
       number = omega (arith, c.len-k.ensures);
@@ -58,4 +58,4 @@ returns-clause-ok g c =
       named = rw (← c.deref.ensures, ← c.script.ensures.script, ← c.apps.ensures.apps) c.in_ok-name.ensures;
     } in
     rw (c.push_reserved.ensures.items, c.push_reserved-2.ensures.items, c.push_reserved-3.ensures.items, c.in_ok-reserve.ensures.items, c.in_ok-reserve-2.ensures.items, c.in_ok-reserve-3.ensures.items)
-    (submit-view _ (arc_value k.script).tree k.tasks.items k.steps.items k.arrived k.ending k.log.items k.refusal (map g.M.Monitor.told k.monitors.items) k.running k.stored c.args.units c.args.app c.args.arguments c.args.names c.args.path c.len-k.result c.pending.new.self c.in_ok-submitted.submitted c.in_ok-name.name c.self.invariant.0 c.self.view_is c.requires.adds writes)
+    (submit-view _ (arc_value k.script).tree k.tasks.items k.steps.items k.arrived k.ending k.log.items k.refusal [] k.running k.stored c.args.units c.args.app c.args.arguments c.args.names c.args.path c.len-k.result c.pending.new.self c.in_ok-submitted.submitted c.in_ok-name.name c.self.invariant.0 c.self.view_is c.requires.adds writes)

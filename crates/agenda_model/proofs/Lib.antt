@@ -1,0 +1,12 @@
+pub mod PathPlaces
+pub mod NumberLists
+pub mod NewTasks
+pub mod TaskCounts
+pub mod JoinCalls
+pub mod JoinEnds
+pub mod Queues
+pub mod Tying
+pub mod Named
+pub mod Given
+pub mod Carrying
+pub mod Submitting

@@ -1,0 +1,3 @@
+pub mod AgendaViews
+pub mod Agendas
+pub mod Storing

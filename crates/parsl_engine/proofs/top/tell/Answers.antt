@@ -1,0 +1,8 @@
+use Rattle.parsl_engine.proofs.Courses.{course-read, course-unread}
+use Rattle.parsl_engine.proofs.top.tell.Goals as goal
+
+pub returns-in-Ok : goal.returns-in-Ok
+returns-in-Ok g c = λ told.
+    let read = rw c.as_str.ensures at c.in-Ok.ensures in
+    let produced = rw c.deref.ensures.value at (c.plain_output.ensures told) in
+    course-read c.args.order.command c.args.order.script.now g.S.Shelf.tells g.O.Sink.tells _ _ _ _ _ _ c.in-Ok.bytes _ c.print.result read produced c.print.ensures
