@@ -1,5 +1,6 @@
 -- A body that runs goes on to its next request, or to its end.
 use Rattle.std.proofs.Common.{◌≡◌, true, List, [], ◌∷◌, Option, Some, None, Result, Ok, Err, refl, sym, ap, ◌∙◌, subst}
+use Rattle.std.specs.Arc.{arc_value}
 use Rattle.flow_base.specs.declared.value.Value.{Value}
 use Rattle.flow_base.specs.declared.outcome.Ended.{Ended}
 use Rattle.flow_base.specs.declared.outcome.Ended.TheVariants as ended
@@ -14,6 +15,7 @@ use Rattle.flow_meaning.specs.Run.{Ran, Gave, Threw, Asked, run, then_run, reque
 use Rattle.flow_meaning.specs.Sequential.{end_of}
 use Rattle.flow_meaning.proofs.Run.{run-bind}
 use Rattle.body_program.specs.Meaning.{Flow, Goes, Returns, done}
+use Rattle.body_program.specs.declared.code.Program.{Program}
 use Rattle.body_program.specs.declared.code.Step.{Step}
 use Rattle.app_eval.specs.declared.position.Interrupt.{Interrupt}
 use Rattle.app_eval.specs.declared.position.Interrupt.TheVariants as halt
@@ -43,10 +45,10 @@ done_end names (Returns value s) left = files_end value [] names s.written left
 
 -- what the statements do from the place on, with the answers
 abbrev steps_ran : List Text → Running → Ran Flow
-steps_ran names r = run (steps_at names r.program.steps r.place.step r.place.inside (store_of r.frame)) r.told.items
+steps_ran names r = run (steps_at names (arc_value r.program).steps r.place.step r.place.inside (store_of r.frame)) r.told.items
 
 ran_by : (names : List Text) (r : Running) → ran_of names r ≡ then_run (steps_ran names r) (done names)
-ran_by names r = run-bind (steps_at names r.program.steps r.place.step r.place.inside (store_of r.frame)) (done names) r.told.items
+ran_by names r = run-bind (steps_at names (arc_value r.program).steps r.place.step r.place.inside (store_of r.frame)) (done names) r.told.items
 
 unended : (w : Want) (T : Type 0) → T → Unended w T
 unended (want.Asks request) T h = h
@@ -75,31 +77,31 @@ asked_wanted names before now request asks same = (
 advanced : {E : Type 0} (names : List Text) (before now : Running) (w : Want) (result : Result Want E) → result ≡ Ok w → Wanted names before now w → Advances names before now result
 advanced names before now w result is h = subst (Advances names before now) (sym is) h
 
-halted_same : {E : Type 0} (names : List Text) (before stepped now : Running) (h : Interrupt Position) (result : Result Want E) → stepped.program ≡ before.program → Runs flow_of (λ p. steps_at names before.program.steps p.step p.inside) (Err h) (store_of stepped.frame) stepped.told.items (steps_ran names before) → Halted h stepped now result → Advances names before now result
+halted_same : {E : Type 0} (names : List Text) (before stepped now : Running) (h : Interrupt Position) (result : Result Want E) → stepped.program ≡ before.program → Runs flow_of (λ p. steps_at names (arc_value before.program).steps p.step p.inside) (Err h) (store_of stepped.frame) stepped.told.items (steps_ran names before) → Halted h stepped now result → Advances names before now result
 halted_same names before stepped now (halt.Raised exception) result same runs halted = advanced names before now (want.Ended (ended.Raised exception)) result halted.0 (raised_wanted names before now exception runs)
 halted_same names before stepped now (halt.Asks request place) result same runs halted =
     let at : steps_ran names now ≡ steps_ran names (record stepped { place = place }) = ap (steps_ran names) halted.1 in
-    let program : steps_ran names (record stepped { place = place }) ≡ steps_ran names before = ap (λ p. run (steps_at names p.steps place.step place.inside (store_of stepped.frame)) stepped.told.items) same ∙ runs.1 in
+    let program : steps_ran names (record stepped { place = place }) ≡ steps_ran names before = ap (λ p. run (steps_at names (arc_value {X = Program} p).steps place.step place.inside (store_of stepped.frame)) stepped.told.items) same ∙ runs.1 in
     advanced names before now (want.Asks request) result halted.0 (asked_wanted names before now request runs.0 (at ∙ program))
 halted_same names before stepped now halt.NoMemory (Ok w) same runs halted = absurd halted.0
 halted_same names before stepped now halt.NoMemory (Err e) same runs halted = tt
 
-pub halted_advances : {E : Type 0} (names : List Text) (before stepped now : Running) (steps : List Step) (place : Position) (h : Interrupt Position) (result : Result Want E) → steps ≡ before.program.steps → place ≡ before.place → stepped.program ≡ before.program → Runs flow_of (λ p. steps_at names steps p.step p.inside) (Err h) (store_of stepped.frame) stepped.told.items (run (steps_at names steps place.step place.inside (store_of before.frame)) before.told.items) → Halted h stepped now result → Advances names before now result
+pub halted_advances : {E : Type 0} (names : List Text) (before stepped now : Running) (steps : List Step) (place : Position) (h : Interrupt Position) (result : Result Want E) → steps ≡ (arc_value before.program).steps → place ≡ before.place → stepped.program ≡ before.program → Runs flow_of (λ p. steps_at names steps p.step p.inside) (Err h) (store_of stepped.frame) stepped.told.items (run (steps_at names steps place.step place.inside (store_of before.frame)) before.told.items) → Halted h stepped now result → Advances names before now result
 halted_advances names before stepped now steps place h result same at program runs halted =
-    let here : Runs flow_of (λ p. steps_at names before.program.steps p.step p.inside) (Err h) (store_of stepped.frame) stepped.told.items (run (steps_at names before.program.steps place.step place.inside (store_of before.frame)) before.told.items) =
+    let here : Runs flow_of (λ p. steps_at names (arc_value before.program).steps p.step p.inside) (Err h) (store_of stepped.frame) stepped.told.items (run (steps_at names (arc_value before.program).steps place.step place.inside (store_of before.frame)) before.told.items) =
     subst (λ (ss : List Step). Runs flow_of (λ p. steps_at names ss p.step p.inside) (Err h) (store_of stepped.frame) stepped.told.items (run (steps_at names ss place.step place.inside (store_of before.frame)) before.told.items)) same runs in
-    let from : Runs flow_of (λ p. steps_at names before.program.steps p.step p.inside) (Err h) (store_of stepped.frame) stepped.told.items (steps_ran names before) =
-    subst (λ (at : Position). Runs flow_of (λ p. steps_at names before.program.steps p.step p.inside) (Err h) (store_of stepped.frame) stepped.told.items (run (steps_at names before.program.steps at.step at.inside (store_of before.frame)) before.told.items)) at here in
+    let from : Runs flow_of (λ p. steps_at names (arc_value before.program).steps p.step p.inside) (Err h) (store_of stepped.frame) stepped.told.items (steps_ran names before) =
+    subst (λ (at : Position). Runs flow_of (λ p. steps_at names (arc_value before.program).steps p.step p.inside) (Err h) (store_of stepped.frame) stepped.told.items (run (steps_at names (arc_value before.program).steps at.step at.inside (store_of before.frame)) before.told.items)) at here in
     halted_same names before stepped now h result program from halted
 
 pub begin_fits : (steps : List Step) (p : Position) → p ≡ record { step = 0; inside = None } → steps_fit steps p ≡ true
 begin_fits steps p is = ap (λ (at : Position). steps_fit steps at) is
 
 -- its steps have the place at which it waits then
-pub halted_fits : {E : Type 0} (names : List Text) (stepped now : Running) (steps : List Step) (h : Interrupt Position) (result : Result Want E) (ran : Ran Flow) → steps ≡ stepped.program.steps → Fits stepped → Runs flow_of (λ p. steps_at names steps p.step p.inside) (Err h) (store_of stepped.frame) stepped.told.items ran → Halted h stepped now result → Fits now
+pub halted_fits : {E : Type 0} (names : List Text) (stepped now : Running) (steps : List Step) (h : Interrupt Position) (result : Result Want E) (ran : Ran Flow) → steps ≡ (arc_value stepped.program).steps → Fits stepped → Runs flow_of (λ p. steps_at names steps p.step p.inside) (Err h) (store_of stepped.frame) stepped.told.items ran → Halted h stepped now result → Fits now
 halted_fits names stepped now steps (halt.Raised exception) result ran same fits runs halted = rw halted.1 fits
 halted_fits names stepped now steps (halt.Asks request place) result ran same fits runs halted =
     let here : steps_fit steps place ≡ true = asks_fits names steps place (store_of stepped.frame) stepped.told.items ran request runs.0 runs.1 in
-    let there : steps_fit stepped.program.steps place ≡ true = ap (λ ss. steps_fit ss place) (sym same) ∙ here in
+    let there : steps_fit (arc_value stepped.program).steps place ≡ true = ap (λ ss. steps_fit ss place) (sym same) ∙ here in
     rw halted.1 there
 halted_fits names stepped now steps halt.NoMemory result ran same fits runs halted = rw halted.1 fits

@@ -2,10 +2,7 @@
 use Rattle.std.proofs.Common.{◌≡◌, List, [], ◌∷◌, ◌++◌, Result, Ok, Err, refl, ap, sym, ◌∙◌}
 use Rattle.flow_meaning.specs.declared.walk.Answer.{Answer}
 use Rattle.flow_meaning.specs.Act.{Act, Give, Throw, Ask, after}
-use Rattle.flow_base.specs.declared.value.Value.{Value}
-use Rattle.script_tree.specs.declared.tree.Block.{Block}
-use Rattle.flow_meaning.specs.Operators.{Text}
-use Rattle.flow_meaning.specs.Meaning.{Done, body}
+use Rattle.flow_meaning.specs.Meaning.{Done}
 use Rattle.flow_meaning.specs.Run.{Ran, Gave, Threw, Asked, run}
 use Rattle.app_eval.specs.Runnings.{Advances, Unended, Walk, ended_in, left_after, ran_of, wants}
 use Rattle.app_eval.specs.Walks.{Resumes, act_of, answers_of, first_want, left_of}
@@ -62,8 +59,3 @@ pub resumes_told : {E : Type 0} (before now : Walk) (told : Running) (reply : Re
     → reply ≡ the_reply.Told answer → ran_of [] told ≡ run (left_after [] before.running) (before.running.told.items ++ answer ∷ []) → Advances [] told now.running r → Resumes before now reply r
 resumes_told before now told reply answer r told_it is a =
     resumes_as before now told reply r (ap act_of is ∙ act_of_tell (left_after [] before.running) before.running.told.items answer ∙ ap (λ (given : Reply). after (left_of before) (answers_of given)) (sym told_it)) a
-
--- ---- the same body
-
-pub same_body : (block : Block) {ps qs : List Text} {xs ys : List Value} {ns ms : List Text} → ps ≡ qs → xs ≡ ys → ns ≡ ms → end_of (body [] block ps xs ns) ≡ end_of (body [] block qs ys ms)
-same_body block p x n = λ i. end_of (body [] block (p i) (x i) (n i))

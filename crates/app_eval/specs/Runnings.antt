@@ -1,5 +1,6 @@
 -- What a body that runs has left, and what it wants next.
 use Rattle.std.specs.Prelude.{◌≡◌, ℕ, true, List, Result, Ok, Err, IfOk}
+use Rattle.std.specs.Arc.{arc_value}
 use Rattle.flow_base.specs.declared.outcome.Ended.{Ended}
 use Rattle.flow_base.specs.declared.outcome.Ended.TheVariants as ended
 use Rattle.flow_base.specs.declared.outcome.Exception.TheVariants as x
@@ -20,11 +21,11 @@ use Rattle.app_eval.specs.Positions.{steps_fit}
 
 -- its steps have the position at which it waits
 abbrev pub Fits : Running → Type 0
-Fits r = steps_fit r.program.steps r.place ≡ true
+Fits r = steps_fit (arc_value r.program).steps r.place ≡ true
 
 -- what it does from its place on, with the answers of the statement there still to come
 abbrev pub left_after : List Text → Running → Act m.Done
-left_after names r = steps_at names r.program.steps r.place.step r.place.inside (store_of r.frame) >>= done names
+left_after names r = steps_at names (arc_value r.program).steps r.place.step r.place.inside (store_of r.frame) >>= done names
 
 abbrev pub ran_of : List Text → Running → Ran m.Done
 ran_of names r = run (left_after names r) r.told.items

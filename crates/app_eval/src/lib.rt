@@ -24,6 +24,6 @@ mod variable;
 mod waits;
 mod walker;
 
-pub use plain_app::apply;
+pub use plain_app::{apply, end_alone};
 pub use running::Want;
 pub use walker::{Reply, Walker};

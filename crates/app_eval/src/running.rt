@@ -1,6 +1,7 @@
 //! A body that runs, from one request to the next.
 
 ghost use Rattle.std.specs.Prelude.{◌≡◌, ◌++◌, ◌∷◌, [], List, None, Some, IfOk, OnOk, slice_set};
+ghost use Rattle.std.specs.Arc.{arc_value};
 ghost use Rattle.app_eval.specs.Runnings.{Advances, Fits, Halted, left_after, ran_of};
 ghost use Rattle.body_program.specs.Meaning as code;
 ghost use Rattle.flow_meaning.specs.Meaning as m;
@@ -17,6 +18,7 @@ use flow_base::{Ended, Items, Names, Text, Value};
 use flow_meaning::{Answer, Request};
 use std::alloc::{AllocError, Global};
 use std::mem;
+use std::sync::Arc;
 
 /// The turns that the loops of a body may make.
 const MAX_TURNS: u32 = 1000000;
@@ -34,7 +36,7 @@ pub enum Want {
 #[derive(Drop)]
 pub struct Running {
     /// What it does.
-    pub program: Program,
+    pub program: Arc<Program>,
     /// What it has.
     pub frame: Frame,
     /// Where it waits.
@@ -58,11 +60,11 @@ impl Running {
     #[tactic(auto, using(crate::proofs::Begins::begins_at), unfolding(body_program::specs::Meaning::program_act))]
     pub fn begin(
         alloc: Global,
-        program: Program,
+        program: Arc<Program>,
         arguments: &[Value],
         names: &[Text],
     ) -> Result<Running, AllocError>
-        ensures runs { IfOk result (λ r. ran_of names.now r ≡ run (code.program_act program arguments.now names.now) []) }
+        ensures runs { IfOk result (λ r. ran_of names.now r ≡ run (code.program_act (arc_value program) arguments.now names.now) []) }
         ensures fits { IfOk result Fits }
     {
         let slots = slots_of(alloc, &program, arguments)?;

@@ -1,20 +1,20 @@
 //! Walks of main and of the bodies of joins, which wait for the answers to their requests.
 
 ghost use Rattle.std.specs.Prelude.{◌≡◌, ◌<◌, ◌-◌, ◌^◌, suc, [], length, slice_get, IfOk};
-ghost use Rattle.flow_meaning.specs.Meaning as m;
-ghost use Rattle.flow_meaning.specs.Walk.{body_act, main_act, names_in};
+ghost use Rattle.std.specs.Arc.{arc_value};
+ghost use Rattle.flow_meaning.specs.Walk.{body_act, main_act};
+ghost use Rattle.body_program.specs.Meaning as code;
+ghost use Rattle.compiled_script.specs.Programs.{IsJoin};
 ghost use Rattle.app_eval.specs.Walks.{Resumes, left_of, rest_of};
 
 use crate::running::{Running, Want};
-use app_index::Apps;
-use body_program::program;
-use flow_base::{Items, Text, Value};
+use body_program::Program;
+use compiled_script::CompiledScript;
+use flow_base::{Items, Value};
 use flow_meaning::Answer;
-use script_tree::checked::Checked;
-use script_tree::tree::{AppDef, Block};
-use sqlite_items::at;
 use std::alloc::{AllocError, Global};
 use std::marker::Model;
+use std::sync::Arc;
 
 /// What a walk is told.
 #[derive(Drop)]
@@ -52,36 +52,28 @@ impl Model for Walker {
 
 impl Walker {
     /// The walk of main.
-    pub fn main(alloc: Global, script: &Checked) -> Result<Walker, AllocError>
+    pub fn main(alloc: Global, script: &CompiledScript) -> Result<Walker, AllocError>
         requires { length script.now.tree.0 < 2 ^ 32 }
         ensures left { IfOk result (λ w. left_of w ≡ main_act script.now.tree) }
         ensures rest { IfOk result (λ w. rest_of w ≡ 2 ^ 64 - 1) }
     {
-        let script = script.script();
-        walk(alloc, script.apps(), &[], script.main(), &[])
+        walk(alloc, script.main().clone()?, &[])
     }
 
-    /// The walk of the body of the app of this number, with these arguments.
+    /// The walk of the body of the join of this number, with these arguments.
     pub fn body(
         alloc: Global,
-        script: &Checked,
+        script: &CompiledScript,
         app: u32,
         arguments: Items,
     ) -> Result<Walker, AllocError>
         requires few { length script.now.tree.0 < 2 ^ 32 }
         requires app { app < length script.now.tree.0 }
+        requires join { IsJoin (slice_get script.now.tree.0 app) }
         ensures left { IfOk result (λ w. left_of w ≡ body_act script.now.tree (slice_get script.now.tree.0 app) arguments) }
         ensures rest { IfOk result (λ w. rest_of w ≡ 2 ^ 64 - 1) }
     {
-        let apps = script.script().apps();
-        let app = &apps[app as usize];
-        walk(
-            alloc,
-            apps,
-            app.parameters.as_slice(),
-            &app.body,
-            arguments.as_slice(),
-        )
+        walk(alloc, script.body(app).clone()?, arguments.as_slice())
     }
 
     /// How often it may still be resumed.
@@ -109,19 +101,10 @@ impl Walker {
     }
 }
 
-fn walk(
-    alloc: Global,
-    apps: &[AppDef],
-    parameters: &[Text],
-    body: &Block,
-    arguments: &[Value],
-) -> Result<Walker, AllocError>
-    requires { length apps.now < 2 ^ 32 }
-    ensures left { IfOk result (λ w. left_of w ≡ m.body (names_in apps.now) body.now parameters.now arguments.now []) }
+fn walk(alloc: Global, program: Arc<Program>, arguments: &[Value]) -> Result<Walker, AllocError>
+    ensures left { IfOk result (λ w. left_of w ≡ code.program_act (arc_value program) arguments.now []) }
     ensures rest { IfOk result (λ w. rest_of w ≡ 2 ^ 64 - 1) }
 {
-    let apps = Apps::of(alloc, apps)?;
-    let program = program(alloc, &apps, parameters, body)?;
     let running = Running::begin(alloc, program, arguments, &[])?;
     Ok(Walker {
         running,

@@ -1,6 +1,6 @@
 -- Each new path at the end gives the first of each path.
 use Rattle.std.proofs.Common.{◌≡◌, ℕ, ◌+◌, ◌<◌, length, drop, get_or, Bool, true, false, not, cond, ◌&&◌, ◌||◌, List, [], ◌∷◌, ◌++◌, bytes_eq, refl, sym, ap, ◌∙◌, append_assoc, append-nil}
-use Rattle.std.specs.List.{filter, flat_map, list_all, list_any}
+use Rattle.std.specs.List.{filter, flat_map, list_any}
 use Rattle.std.proofs.lemmas.List.{drop_more}
 use Rattle.std.proofs.lemmas.List.Elements.{filter-append}
 use Rattle.std.proofs.lemmas.List.Folds.{list_any-append}
@@ -120,27 +120,3 @@ passed_added P arguments =
     ∙ added_distinct [] (filter P all)
     ∙ all_new (distinct (filter P all))
     ∙ distinct_filter P all
-
--- ---- a test of each path
-
-passed_front : (P : Path → Bool) (p q : Path) (ps : List Path) (e : Bool) → bytes_eq p q ≡ e → P p ≡ true → list_all P (cond (not e) (q ∷ ps) ps) ≡ (P q && list_all P ps)
-passed_front P p q ps true same passes =
-    let is : p ≡ q = (bytes_eq-Decides p q).0 same in
-    sym (ap (λ (t : Bool). t && list_all P ps) (ap P (sym is) ∙ passes))
-passed_front P p q ps false same passes = refl
-
-all_but : (P : Path → Bool) (p : Path) → P p ≡ true → (ps : List Path) → list_all P (filter (other p) ps) ≡ list_all P ps
-all_but P p passes [] = refl
-all_but P p passes (q ∷ ps) = passed_front P p q (filter (other p) ps) (bytes_eq p q) refl passes ∙ ap (λ (t : Bool). P q && t) (all_but P p passes ps)
-
-first_of_each : (P : Path → Bool) (p : Path) (ps : List Path) (t : Bool) → P p ≡ t → (t && list_all P (filter (other p) ps)) ≡ (t && list_all P ps)
-first_of_each P p ps true passes = all_but P p passes ps
-first_of_each P p ps false fails = refl
-
-distinct_all : (P : Path → Bool) (ps : List Path) → list_all P (distinct ps) ≡ list_all P ps
-distinct_all P [] = refl
-distinct_all P (p ∷ ps) = first_of_each P p (distinct ps) (P p) refl ∙ ap (λ (t : Bool). P p && t) (distinct_all P ps)
-
-pub inputs_all : (P : Path → Bool) (arguments : List Value) → list_all P (inputs arguments) ≡ list_all P (flat_map (λ v. paths_in (out-Value v)) arguments)
-unfolding inputs
-inputs_all P arguments = distinct_all P (flat_map (λ v. paths_in (out-Value v)) arguments)

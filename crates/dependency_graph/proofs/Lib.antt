@@ -1,5 +1,5 @@
 pub mod Distinct
-pub mod Equality
+mod Matches
 mod Lengths
 pub mod Places
 pub mod Numbers

@@ -15,7 +15,6 @@ mod path_table;
 mod readiness;
 mod resolved;
 mod rows;
-mod settled;
 #[cfg(test)]
 mod tests;
 mod to_do;
@@ -30,4 +29,3 @@ pub use outcomes::Outcomes;
 pub use path_table::PathTable;
 pub use readiness::{Readiness, readiness_of};
 pub use resolved::resolve;
-pub use settled::is_settled_all;

@@ -11,7 +11,7 @@ use flow_base::{FileOut, Outcome, Value};
 use sqlite_items::at;
 
 /// Whether the values are those that the arguments resolve to.
-#[tactic(auto, using(crate::proofs::Equality::resolved_rules))]
+#[tactic(auto, using(crate::proofs::Matches::resolved_rules))]
 pub fn is_resolved<O: Outcomes>(outcomes: &O, arguments: &[Value], values: &[Value]) -> bool
     ensures { IsTrue result ↔ (definition.resolved (O.tasks outcomes.now) arguments.now ≡ values.now) }
 {

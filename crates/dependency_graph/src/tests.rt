@@ -9,7 +9,7 @@ ghost use Rattle.dependency_graph.specs.Places.{AreDistinct, place_in};
 
 use crate::{
     Callback, Graph, Monitor, Outcomes, Readiness, Settlement, are_deep, inputs_of, is_resolved,
-    is_settled_all, readiness_of, resolve,
+    readiness_of, resolve,
 };
 use flow_base::{
     Exception, FileOut, Files, Items, Outcome, Path, Paths, TaskEnd, TaskEnds, Text, Value,
@@ -127,7 +127,6 @@ fn inputs_in_order_of_first_appearance(rt: HostRuntime) -> Result<(), Fail> {
     let arguments = nested(alloc)?;
     let paths = inputs_of(alloc, arguments.as_slice())?;
     assert_eq!(rt; shown(alloc, paths.as_slice())?.as_str(), "2 3 1 4 ");
-    assert!(rt; !is_settled_all(&two_known(alloc)?, arguments.as_slice()));
     Ok(())
 }
 
@@ -166,7 +165,6 @@ fn values_and_files_in_place(rt: HostRuntime) -> Result<(), Fail> {
     let list = pair(alloc, file, Value::Int(5))?;
     let expected = Value::List(pair(alloc, Value::Int(7), Value::List(list))?);
     let values = resolve(alloc, &known, arguments.as_slice())?;
-    assert!(rt; is_settled_all(&known, arguments.as_slice()));
     assert!(rt; is_resolved(&known, arguments.as_slice(), values.as_slice()));
     assert!(rt; !is_resolved(&known, arguments.as_slice(), arguments.as_slice()));
     assert!(rt; Value::List(values).same(&expected));

@@ -1,12 +1,16 @@
 //! What bodies give, as text.
 
-use app_eval::apply;
+use app_eval::end_alone;
+use app_index::Apps;
 use app_script::parse::parse;
+use body_program::program;
 use flow_base::{Ended, Exception, FileOut, Items, Names, Text, Value};
 use run_report::lines::print_exception;
 use run_report::value::{print_file, print_value};
+use script_tree::tree::AppDef;
 use sqlite_items::Items as ListOf;
 use std::alloc::{AllocError, Global};
+use std::sync::Arc;
 use std::test::Fail;
 use text_writer::Writer;
 
@@ -52,6 +56,13 @@ fn print_files(writer: &mut Writer, files: &[FileOut]) -> Result<(), AllocError>
     Ok(())
 }
 
+/// How a plain app ends, which need not keep the static rules.
+fn end(alloc: Global, app: &AppDef, arguments: &Items, names: &Names) -> Result<Ended, AllocError> {
+    let none = Apps::of(alloc, &[])?;
+    let program = program(alloc, &none, app.parameters.as_slice(), &app.body)?;
+    end_alone(alloc, Arc::new(alloc, program)?, arguments, names)
+}
+
 /// What the first app of a script gives.
 pub fn given(
     alloc: Global,
@@ -62,7 +73,7 @@ pub fn given(
     let script = parse(alloc, script.as_bytes())?;
     let mut writer = Writer::new(alloc);
     if let Some(app) = script.apps().first() {
-        let ended = apply(alloc, app, arguments, names)?;
+        let ended = end(alloc, app, arguments, names)?;
         print_ended(&mut writer, &ended)?;
     }
     Ok(String::from_utf8(writer.into_bytes())?)

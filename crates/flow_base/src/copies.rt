@@ -49,7 +49,8 @@ impl Outcome {
     }
 }
 
-fn copy_files(alloc: Global, files: &[FileOut]) -> Result<Files, AllocError>
+/// Equal files, in the same order.
+pub fn copy_files(alloc: Global, files: &[FileOut]) -> Result<Files, AllocError>
     ensures { IfOk result (λ copies. copies ≡ files.now) }
 {
     let mut copies = Files::new(alloc);

@@ -19,6 +19,7 @@ mod text;
 pub mod value;
 mod word;
 
+pub use copies::copy_files;
 pub use decision::Decision;
 pub use host_shelf::HostShelf;
 pub use host_sink::HostSink;
@@ -28,10 +29,11 @@ pub use outcome::{
     Ended, Ending, Evaluation, Exception, FileOut, Files, Outcome, TaskEnd, TaskEnds,
 };
 pub use path::{MAX_PATH, Path, Paths};
+pub use same::all_same;
 pub use shelf::{CallKind, Shelf, ShelfFault};
 pub use sink::{Failed, Sink, write_whole};
-pub use text::{Names, Text, copy_names};
-pub use value::{Items, MAX_LEVELS, MAX_UNITS, Value};
+pub use text::{Names, Text, copy_names, same_names};
+pub use value::{Items, MAX_LEVELS, MAX_UNITS, Value, copy_values};
 pub use word::{Word, Words};
 
 /// The allocator had no memory left. A refused call leaves its objects as they were.

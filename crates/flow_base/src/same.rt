@@ -46,7 +46,7 @@ impl Value {
 /// Whether there are as many of both, each the same as the one in its place.
 #[cycle(same)]
 #[tactic(auto, unfolding(crate::specs::Values::same))]
-fn all_same(items: &[Value], others: &[Value]) -> bool
+pub fn all_same(items: &[Value], others: &[Value]) -> bool
     ensures { result ≡ all_match (map same items.now) others.now }
 {
     if items.len() != others.len() {

@@ -1,6 +1,6 @@
 //! Texts.
 
-ghost use Rattle.std.specs.Prelude.{◌≡◌, ◌++◌, ◌∷◌, [], length, bytes_eq, slice_get, All, IfOk, OnOk, OnErr};
+ghost use Rattle.std.specs.Prelude.{◌≡◌, ◌↔◌, ◌++◌, ◌∷◌, [], length, bytes_eq, slice_get, All, IsTrue, IfOk, OnOk, OnErr};
 ghost use Rattle.flow_base.specs.TextBytes.{IsTextByte};
 
 use sqlite_items::Items as ListOf;
@@ -25,6 +25,21 @@ pub fn copy_names(alloc: Global, names: &[Text]) -> Result<Names, AllocError>
         copies.push(name.copy(alloc)?)?;
     }
     Ok(copies)
+}
+
+/// Whether both are the same names.
+pub fn same_names(names: &[Text], others: &[Text]) -> bool
+    ensures { IsTrue result ↔ (names.now ≡ others.now) }
+{
+    if names.len() != others.len() {
+        return false;
+    }
+    for i in 0..names.len() {
+        if !names[i].same(&others[i]) {
+            return false;
+        }
+    }
+    true
 }
 
 impl Model for Text {

@@ -114,7 +114,7 @@ impl Value {
         match self {
             Value::Int(n) => Ok(Value::Int(*n)),
             Value::Text(text) => Ok(Value::Text(text.copy(alloc)?)),
-            Value::List(items) => Ok(Value::List(copy_all(alloc, items.as_slice())?)),
+            Value::List(items) => Ok(Value::List(copy_values(alloc, items.as_slice())?)),
             Value::File { name, content } => Ok(Value::File {
                 name: name.copy(alloc)?,
                 content: content.copy(alloc)?,
@@ -132,8 +132,9 @@ impl Value {
     }
 }
 
+/// Equal values, in the same order.
 #[cycle(copy)]
-fn copy_all(alloc: Global, items: &[Value]) -> Result<Items, AllocError>
+pub fn copy_values(alloc: Global, items: &[Value]) -> Result<Items, AllocError>
     ensures { IfOk result (λ copies. copies ≡ items.now) }
 {
     let mut copies = ListOf::new(alloc);

@@ -25,13 +25,14 @@ use Rattle.body_requests.specs.Asks.{Asks, AsksWell, RequestIn, IsDeclared, AnyA
 use Rattle.body_requests.specs.Laws.{BodiesAskWell}
 use Rattle.call_rules.specs.Calls.{Call, Dry, child, dry_answer, join_dry}
 use Rattle.stored_units.specs.Stored.{max_tasks}
+use Rattle.compiled_script.specs.Programs.{IsJoin}
 use Rattle.app_eval.specs.declared.running.Want.TheVariants as want
 use Rattle.app_eval.specs.Walks.{first_want}
 use Rattle.join_apps.specs.declared.body.JoinCall.{JoinCall}
 use Rattle.join_apps.specs.declared.body.JoinBody.{JoinBody}
 use Rattle.join_apps.specs.declared.body.BodyFault.{BodyFault}
 use Rattle.join_apps.specs.declared.body.BodyFault.TheVariants.{TooMany, NoMemory}
-use Rattle.join_apps.specs.Bodies.{call_of, calls_of, result_of, IsJoin, Gives, RunsBody}
+use Rattle.join_apps.specs.Bodies.{call_of, calls_of, result_of, Gives, RunsBody}
 use Rattle.join_apps.specs.Making.{next_call, Answers, IsShortCall}
 use Rattle.join_apps.proofs.Outputs.{few_outputs}
 

@@ -1,5 +1,5 @@
 -- What the body of a join calls, and how it ends.
-use Rattle.std.specs.Prelude.{◌≡◌, ◌<◌, ◌≤◌, true, List, length, map, Option, Some, None, Ok, Err}
+use Rattle.std.specs.Prelude.{◌≡◌, ◌<◌, ◌≤◌, List, length, map, Option, Some, None, Ok, Err}
 use Rattle.std.specs.declared.result.Result.{Result}
 use Rattle.flow_base.specs.declared.value.Value.{Value}
 use Rattle.flow_base.specs.declared.outcome.Exception.{Exception}
@@ -11,6 +11,7 @@ use Rattle.flow_meaning.specs.Inputs.{Path}
 use Rattle.flow_meaning.specs.Meaning.{Done}
 use Rattle.call_rules.specs.Calls.{Call, Dry, join_dry}
 use Rattle.stored_units.specs.Stored.{max_tasks}
+pub use Rattle.compiled_script.specs.Programs.{IsJoin}
 use Rattle.join_apps.specs.declared.body.JoinCall.{JoinCall}
 use Rattle.join_apps.specs.declared.body.JoinBody.{JoinBody}
 use Rattle.join_apps.specs.declared.body.BodyFault.{BodyFault}
@@ -26,11 +27,6 @@ calls_of = map call_of
 abbrev pub result_of : Ended → Result Done Exception
 result_of (ended.Value value files) = Ok (value, files)
 result_of (ended.Raised exception) = Err exception
-
--- there is an app, and it is a join
-abbrev pub IsJoin : Option AppDef → Type 0
-IsJoin (Some app) = app.join ≡ true
-IsJoin None = ⊥
 
 -- these are the calls and the end, and the calls are no more than a run may have; or they are more
 abbrev pub Gives : Dry → Result JoinBody BodyFault → Type 0

@@ -3,14 +3,15 @@
 ghost use Rattle.std.specs.Prelude.{◌≡◌, ◌<◌, ◌^◌, length, slice_get, IfOk};
 ghost use Rattle.flow_base.specs.declared.value.Value.TheVariants as v;
 ghost use Rattle.flow_base.specs.Paths.{max_path};
-ghost use Rattle.join_apps.specs.Bodies.{IsJoin, RunsBody};
+ghost use Rattle.compiled_script.specs.Programs.{IsJoin};
+ghost use Rattle.join_apps.specs.Bodies.{RunsBody};
 ghost use Rattle.join_apps.specs.Making.{Answers, IsShortCall, Makes};
 
 use app_eval::{Reply, Walker, Want};
 use body_requests::asked::bodies_ask_well;
+use compiled_script::CompiledScript;
 use flow_base::{Ended, Items, Names, Path, Value};
 use flow_meaning::{Answer, Request};
-use script_tree::checked::Checked;
 use std::alloc::{AllocError, Global};
 use stored_units::MAX_TASKS;
 
@@ -61,7 +62,7 @@ impl From<AllocError> for BodyFault {
 /// body ends.
 pub fn run_body(
     alloc: Global,
-    script: &Checked,
+    script: &CompiledScript,
     app: u32,
     arguments: Items,
     path: &Path,

@@ -1,11 +1,8 @@
 -- What is read from the tasks of a kernel, by path and by name.
-use Rattle.std.proofs.Common.{◌≡◌, ℕ, zero, suc, ◌+◌, ◌<◌, ◌≤◌, true, List, [], ◌∷◌, length, map, take, Option, Some, None, get_or, bytes_eq, refl, sym, ◌∙◌, ap, arith}
+use Rattle.std.proofs.Common.{◌≡◌, ℕ, zero, suc, ◌+◌, ◌<◌, ◌≤◌, true, List, [], ◌∷◌, length, map, take, Option, Some, None, get_or, refl, sym, ◌∙◌, ap, arith}
 use Rattle.std.specs.Prelude.{option_map, slice_get}
-use Rattle.std.proofs.lemmas.List.{get_or_read, take_more_same}
-use Rattle.std.proofs.lemmas.Slice.Eq.{bytes_eq-Decides}
 use Rattle.flow_base.specs.declared.outcome.Outcome.{Outcome}
 use Rattle.flow_meaning.specs.Inputs.{Path}
-use Rattle.flow_meaning.specs.Operators.{Text}
 use Rattle.flow_meaning.specs.Sequential.{Task as TaskOf, outcome_at}
 use Rattle.call_rules.specs.Calls.{Call, task_of}
 use Rattle.dependency_graph.specs.Places.{place_in, AreDistinct, task_there, task_at_place}
@@ -13,13 +10,6 @@ use Rattle.dependency_graph.proofs.Places.{outcome-there, outcome_of_task}
 use Rattle.kernel_model.specs.Known.{outcome_in}
 use Rattle.kernel_core.specs.declared.task.Task.{Task}
 use Rattle.kernel_core.specs.Tasks.{call_of, life_of, settled_task, tasks_by}
-
--- ---- names
-
-pub names-more : (names others : List Text) (i : ℕ) (n o : Text) → i < length names → length names ≡ length others → n ≡ get_or names i n → o ≡ get_or others i o → bytes_eq n o ≡ true → take i names ≡ take i others → take (i + 1) names ≡ take (i + 1) others
-names-more names others i n o within same at_names at_others is first =
-    let equal : n ≡ o = (bytes_eq-Decides n o).0 is in
-    take_more_same names others i n within (omega arith) first (sym at_names ∙ equal ∙ get_or_read others i o (omega arith) at_others n)
 
 -- ---- the tasks that are settled, by their paths
 

@@ -11,11 +11,13 @@ use Rattle.script_tree.specs.declared.tree.AppDef.{AppDef}
 use Rattle.task_record.specs.declared.status.Status.TheVariants as status
 use Rattle.flow_meaning.specs.Sequential.{apply, resolved, outcome_of}
 use Rattle.flow_meaning.specs.Evaluations.{no_losses}
+use Rattle.flow_meaning.specs.Inputs.{Path}
 use Rattle.dependency_graph.specs.declared.readiness.Readiness.{Readiness}
 use Rattle.dependency_graph.specs.declared.readiness.Readiness.TheVariants as readiness
 use Rattle.dependency_graph.specs.Readiness.{ready}
 use Rattle.call_rules.specs.Calls.{Fails, Attempts, begin_ready, begin_join, has_room, call_outcome, outcome_with}
 use Rattle.call_rules.proofs.Agreeing.{begin-attempts, runs-on}
+use Rattle.compiled_script.specs.Programs.{IsPlainApp}
 use Rattle.kernel_model.specs.declared.answers.Refusal.{Refusal}
 use Rattle.kernel_model.specs.declared.answers.Refusal.TheVariants.{NoMemory, TaskLimit, StoreLimit}
 use Rattle.kernel_model.specs.Jobs.{JobView, DoneView}
@@ -107,15 +109,24 @@ attempted w k inv run =
     let ready = begin-attempts (apps_in w) (known w) (call_at w k) a.app a.values a.begins in
     record { app = a.app; values = a.values; begins = a.begins; there = ready.1; given = (runs-on (known w) (call_at w k).arguments a.values ready.0).are }
 
-is_there : (app : Option AppDef) (a : AppDef) → app ≡ Some a → IsSome app
-is_there None a h = absurd (cc)
-is_there (Some b) a h = refl
+-- what is attempted is no join's body
+plain_by : (path : Path) (app : Option AppDef) (r : Readiness) (a : AppDef) (values : List Value) → begin_ready path app r ≡ Attempts a values → IsPlainApp app
+plain_by path app (readiness.Settles exception) a values is = absurd (cc)
+plain_by path None (readiness.Runs given) a values is = absurd (cc)
+plain_by path (Some app) (readiness.Runs given) a values is = by_join app.join (has_room path) is
+  where
+    by_join : (join room : Bool) → (if join then begin_join room app given else Attempts app given) ≡ Attempts a values → join ≡ false
+    by_join true true is = absurd (cc)
+    by_join true false is = absurd (cc)
+    by_join false room is = refl
 
--- the job of an attempt that waits is of an app of the script
+-- the job of an attempt that waits is of an app of the script, and of no join
 pub fits-apps : (w : Known) (k : ℕ) (job : JobView) → Inv w → status_at w k ≡ status.Launched → job ≡ job_of w k → FitsApps (apps_in w) job
 fits-apps w k job inv waits is =
     let a = attempted w k inv (subst HasRun (sym waits) tt) in
-    subst (FitsApps (apps_in w)) (sym is) (is_there (slice_get (apps_in w) (call_at w k).app) a.app a.there)
+    let plain : IsPlainApp (slice_get (apps_in w) (call_at w k).app)
+    = plain_by (path_at w k) (slice_get (apps_in w) (call_at w k).app) (ready (known w) (call_at w k).arguments) a.app a.values a.begins in
+    subst (FitsApps (apps_in w)) (sym is) plain
 
 -- the end of the job of a running attempt is what its body gives
 pub can-finish : (w : Known) (done : DoneView) (k : ℕ) → Inv w → has_ended w ≡ false → IsEndOf (apps_in w) done → IsRunning w done.job k → CanFinish w k (outcome_of done.ended)

@@ -6,8 +6,8 @@ ghost use Rattle.kernel_model.specs.Turns.{IsEndOf};
 ghost use Rattle.kernel_core.specs.Jobs.{FitsApps};
 
 use app_eval::apply;
+use compiled_script::CompiledScript;
 use flow_base::{Ended, Items, Names, Path, Text};
-use script_tree::script::Script;
 use std::alloc::{AllocError, Global};
 use std::marker::Model;
 
@@ -75,15 +75,12 @@ impl Job {
     }
 
     /// Evaluates the body. Where memory is wanting the job is given up.
-    pub fn run(self, alloc: Global, script: &Script) -> Result<Done, AllocError>
+    pub fn run(self, alloc: Global, script: &CompiledScript) -> Result<Done, AllocError>
         requires { FitsApps script.now.tree.0 self }
         ensures job { IfOk result (λ done. done.job ≡ self) }
         ensures end { IfOk result (λ done. IsEndOf script.now.tree.0 done) }
     {
-        let Some(app) = script.apps().get(self.app as usize) else {
-            unreachable!();
-        };
-        let ended = apply(alloc, app, &self.arguments, &self.names)?;
+        let ended = apply(alloc, script, self.app, &self.arguments, &self.names)?;
         let word = word_of(alloc, &ended)?;
         Ok(Done {
             job: self,

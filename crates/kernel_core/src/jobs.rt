@@ -8,10 +8,9 @@ ghost use Rattle.kernel_core.specs.Turned.{NoJob, BeginsWith};
 
 use crate::beginning::Beginning;
 use crate::job::Job;
-use crate::reading::same_names;
 use crate::run_state::RunState;
 use dependency_graph::{is_resolved, readiness_of, resolve};
-use flow_base::{MAX_PATH, copy_names};
+use flow_base::{MAX_PATH, copy_names, same_names};
 use std::alloc::AllocError;
 use task_record::Status;
 

@@ -1,21 +1,23 @@
 //! The kernel of a run: its state, and main's walk.
 
-ghost use Rattle.std.specs.Prelude.{◌≡◌, ◌<◌, ◌^◌, length, map, IfOk, IfErr};
+ghost use Rattle.std.specs.Prelude.{◌≡◌, ◌<◌, ◌^◌, ◌-◌, [], length, map, IfOk, IfErr};
 ghost use Rattle.std.specs.Arc.{arc_value};
+ghost use Rattle.flow_meaning.specs.Walk.{main_act};
 ghost use Rattle.history_laws.specs.Reads.{history_of};
 ghost use Rattle.kernel_model.specs.Known.{has_ended};
 ghost use Rattle.kernel_model.specs.Acts.{started_with};
 ghost use Rattle.kernel_model.specs.declared.answers.Refusal.TheVariants.{NoMemory};
+ghost use Rattle.kernel_core.specs.MainWalks.{IsReady, left_in, rest_in};
 
 use crate::agenda::Agenda;
 use crate::main_walk::MainWalk;
 use crate::run_state::RunState;
+use compiled_script::CompiledScript;
 use dependency_graph::Monitor;
 use event_log::Entry;
 use kernel_model::Refusal;
 use script_tree::checked::Checked;
-use script_tree::script::Script;
-use std::alloc::Global;
+use std::alloc::{AllocError, Global};
 use std::marker::Model;
 use std::sync::Arc;
 
@@ -72,15 +74,14 @@ impl<M: Monitor> Kernel<M> {
         ensures ok { IfOk result (λ kernel. kernel ≡ started_with (arc_value opening.script).tree (map M.told monitors.items)) }
         ensures err { IfErr result (λ not_opened. (not_opened.refusal ≡ NoMemory) × (not_opened.monitors ≡ monitors)) }
     {
-        let Opening { script } = opening;
-        let Ok(main) = MainWalk::new(alloc, &script) else {
+        let Ok((state, main)) = begin(alloc, opening.script) else {
             return Err(NotOpened {
                 refusal: Refusal::NoMemory,
                 monitors,
             });
         };
         Ok(Kernel {
-            state: RunState::new(alloc, script),
+            state,
             agenda: Agenda::new(alloc, monitors),
             main,
         })
@@ -101,9 +102,22 @@ impl<M: Monitor> Kernel<M> {
     }
 
     /// The script of the run.
-    pub fn script(&self) -> &Script
+    pub fn script(&self) -> &CompiledScript
         ensures { result.now.tree ≡ self.now.tree }
     {
-        self.state.script.script()
+        &self.state.script
     }
+}
+
+// The state before any turn, and main's walk.
+fn begin(alloc: Global, script: Arc<Checked>) -> Result<(RunState, MainWalk), AllocError>
+    requires { length (arc_value script).tree.0 < 2 ^ 32 }
+    ensures state { IfOk result (λ both. both.0 ≡ started_with (arc_value script).tree []) }
+    ensures left { IfOk result (λ both. left_in both.1 ≡ main_act (arc_value script).tree) }
+    ensures rest { IfOk result (λ both. rest_in both.1 ≡ 2 ^ 64 - 1) }
+    ensures ready { IfOk result (λ both. IsReady both.1) }
+{
+    let script = CompiledScript::of(alloc, script)?;
+    let main = MainWalk::new(alloc, &script)?;
+    Ok((RunState::new(alloc, script), main))
 }

@@ -9,8 +9,8 @@ ghost use Rattle.kernel_core.specs.declared.main_walk.Standing.TheVariants as st
 ghost use Rattle.kernel_core.specs.MainWalks.{left_in, rest_in, IsReady};
 
 use app_eval::{Reply, Walker, Want};
+use compiled_script::CompiledScript;
 use flow_meaning::{Answer, Request};
-use script_tree::checked::Checked;
 use std::alloc::{AllocError, Global};
 use std::mem;
 
@@ -34,7 +34,7 @@ pub struct MainWalk {
 
 impl MainWalk {
     /// The walk of main before its first statement.
-    pub fn new(alloc: Global, script: &Checked) -> Result<MainWalk, AllocError>
+    pub fn new(alloc: Global, script: &CompiledScript) -> Result<MainWalk, AllocError>
         requires { length script.now.tree.0 < 2 ^ 32 }
         ensures left { IfOk result (λ m. left_in m ≡ main_act script.now.tree) }
         ensures rest { IfOk result (λ m. rest_in m ≡ 2 ^ 64 - 1) }

@@ -1,11 +1,10 @@
 //! What is read from the tasks of a kernel.
 
-ghost use Rattle.std.specs.Prelude.{◌≡◌, ◌↔◌, IsTrue};
 ghost use Rattle.kernel_core.specs.Tasks.{tasks_by};
 
 use crate::task::Task;
 use dependency_graph::{Outcomes, PathTable};
-use flow_base::{Outcome, Path, Text};
+use flow_base::{Outcome, Path};
 
 /// The tasks of a kernel, with the outcomes of those that are settled.
 #[derive(Drop)]
@@ -22,19 +21,4 @@ impl Outcomes for Settled<'_> {
         let k = self.places.place(path)?;
         self.tasks.get(k)?.outcome()
     }
-}
-
-/// Whether both are the same names.
-pub fn same_names(names: &[Text], others: &[Text]) -> bool
-    ensures { IsTrue result ↔ (names.now ≡ others.now) }
-{
-    if names.len() != others.len() {
-        return false;
-    }
-    for i in 0..names.len() {
-        if !names[i].same(&others[i]) {
-            return false;
-        }
-    }
-    true
 }

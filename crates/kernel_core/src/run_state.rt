@@ -2,7 +2,6 @@
 
 ghost use Rattle.std.specs.Prelude.{◌≡◌, ◌<◌, ◌^◌, [], ◌∷◌, length, None, is_some, MatchOption};
 ghost use Rattle.std.specs.Option.{option_copied};
-ghost use Rattle.std.specs.Arc.{arc_value};
 ghost use Rattle.history_laws.specs.Reads.{history_of, has_end};
 ghost use Rattle.kernel_model.specs.Known.{has_ended, known, path_at, settled_outcome};
 ghost use Rattle.kernel_model.specs.Acts.{started_with, refused};
@@ -14,14 +13,13 @@ ghost use Rattle.kernel_core.specs.Views.{IsFact};
 
 use crate::reading::Settled;
 use crate::task::Task;
+use compiled_script::CompiledScript;
 use dependency_graph::PathTable;
 use event_log::Entry;
 use flow_base::{Ending, Outcome, Path, Value};
 use kernel_model::Refusal;
-use script_tree::checked::Checked;
 use std::alloc::{AllocError, Global};
 use std::marker::Model;
-use std::sync::Arc;
 
 /// What main was answered, with the numbers of calls from 0.
 #[derive(Drop)]
@@ -41,7 +39,7 @@ pub enum MainStep {
 #[derive(Drop)]
 pub struct RunState {
     pub(crate) alloc: Global,
-    pub(crate) script: Arc<Checked>,
+    pub(crate) script: CompiledScript,
     pub(crate) tasks: Vec<Task>,
     // The paths of the tasks.
     pub(crate) places: PathTable,
@@ -61,7 +59,6 @@ pub struct RunState {
 
 impl Model for RunState {
     ghost use Rattle.std.specs.Prelude.{◌≤◌, ◌+◌, [], vec_len, vec_capacity};
-    ghost use Rattle.std.specs.Arc.{arc_value};
     ghost use Rattle.std.specs.Coded.{codes};
     ghost use Rattle.flow_base.specs.contracts.value.Value as value;
     ghost use Rattle.script_tree.specs.contracts.tree.Statement as statement;
@@ -74,19 +71,19 @@ impl Model for RunState {
 
     ghost coded = { Prim.hlevel (codes, value.the_row.coded, statement.the_row.coded, expr.the_row.coded, call.the_row.coded) };
 
-    ghost view = { λ s. known_with (arc_value s.script).tree s.tasks.items s.steps.items s.arrived s.ending s.log.items s.refusal [] };
+    ghost view = { λ s. known_with s.script.tree s.tasks.items s.steps.items s.arrived s.ending s.log.items s.refusal [] };
 
     ghost invariant = { λ s.
-        IsSound (known_with (arc_value s.script).tree s.tasks.items s.steps.items s.arrived s.ending s.log.items s.refusal []) s.tasks.items s.steps.items s.running s.stored
-        × IsIndexed (known_with (arc_value s.script).tree s.tasks.items s.steps.items s.arrived s.ending s.log.items s.refusal []) s.places s.mains
+        IsSound (known_with s.script.tree s.tasks.items s.steps.items s.arrived s.ending s.log.items s.refusal []) s.tasks.items s.steps.items s.running s.stored
+        × IsIndexed (known_with s.script.tree s.tasks.items s.steps.items s.arrived s.ending s.log.items s.refusal []) s.places s.mains
         × (vec_len s.log + s.running ≤ vec_capacity s.log) };
 }
 
 impl RunState {
     /// The state of a run before any turn.
-    pub fn new(alloc: Global, script: Arc<Checked>) -> RunState
-        requires { length (arc_value script).tree.0 < 2 ^ 32 }
-        ensures { result ≡ started_with (arc_value script).tree [] }
+    pub fn new(alloc: Global, script: CompiledScript) -> RunState
+        requires { length script.tree.0 < 2 ^ 32 }
+        ensures { result ≡ started_with script.tree [] }
     {
         RunState {
             alloc,

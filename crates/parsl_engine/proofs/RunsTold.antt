@@ -1,7 +1,7 @@
 -- What monitors are told in a run.
-use Rattle.std.proofs.Common.{◌≡◌, ℕ, List, [], ◌++◌, map, Bool, false, Option, Some, None, Err, refl, sym, ◌∙◌, ap, subst}
+use Rattle.std.proofs.Common.{◌≡◌, ℕ, List, [], ◌++◌, map, Option, Some, None, refl, sym, ◌∙◌, ap, subst}
 use Rattle.std.specs.Prelude.{reverse}
-use Rattle.std.specs.List.{All, filter}
+use Rattle.std.specs.List.{filter}
 use Rattle.std.proofs.lemmas.List.{reverse-reverse}
 use Rattle.std.proofs.lemmas.List.Elements.{All-nil, All-weaker}
 use Rattle.flow_base.specs.declared.outcome.Exception.TheVariants as x
@@ -27,7 +27,7 @@ use Rattle.kernel_model.specs.Telling.{is_settling, settling, settlements, tell_
 use Rattle.kernel_model.proofs.Places.{known-only, known-at}
 use Rattle.kernel_model.proofs.SettledLogs.{settling-log, settled-outcomes}
 use Rattle.kernel_model.proofs.Telling.{tell-none, told-longer}
-use Rattle.kernel_core.proofs.TurnsTold.{fetch-tells, deliver-tells, memory-tells, no-turn-tells}
+use Rattle.kernel_core.proofs.TurnsTold.{fetch-tells, deliver-tells, no-turn-tells}
 use Rattle.parsl_engine.specs.Runs.{without_losses}
 use Rattle.parsl_engine.specs.Tellings.{Ledgers, TellsRun}
 

@@ -1,5 +1,5 @@
 -- What a refused turn says.
-use Rattle.std.proofs.Common.{◌≡◌, ◌≤◌, true, false, List, length, Some, sym, ◌∙◌, ap, subst, arith}
+use Rattle.std.proofs.Common.{◌≡◌, ◌≤◌, true, false, length, Some, sym, ◌∙◌, ap, subst, arith}
 use Rattle.script_tree.specs.Grammar.{Tree}
 use Rattle.stored_units.specs.declared.units.Limit.TheVariants as limit
 use Rattle.stored_units.specs.Totals.{total_units}

@@ -1,6 +1,6 @@
 //! What a command prints for a script.
 
-ghost use Rattle.std.specs.Prelude.{◌≡◌, false, true, map};
+ghost use Rattle.std.specs.Prelude.{◌≡◌, false, true, map, IfOk};
 ghost use Rattle.parsl_engine.specs.Scripts.{IsOfText};
 ghost use Rattle.parsl_engine.specs.Output.{Produces, Gives, TellsEnd, is_raised};
 ghost use Rattle.parsl_engine.specs.Tellings.{Ledgers};
@@ -10,6 +10,7 @@ ghost use Rattle.parsl_engine.specs.declared.words.Command.TheVariants.{Run, Seq
 use crate::run::{PartEnd, RunEnd, run_alone};
 use crate::script::{ScriptFault, ScriptRefusal, is_uncached, read_script};
 use crate::words::Command;
+use compiled_script::CompiledScript;
 use dependency_graph::Monitor;
 use flow_base::Ending;
 use kernel_core::{Opening, Refusal};
@@ -39,7 +40,7 @@ pub fn plain_output(alloc: Global, command: Command, bytes: &[u8]) -> Result<Out
     let script = read_script(alloc, bytes)?;
     match command {
         Command::Run => unreachable!(),
-        Command::Seq => head_output(alloc, &script),
+        Command::Seq => head_output(alloc, script),
         Command::Check => Ok(text_alone(Vec::from_slice(alloc, b"ok\n")?)),
         Command::Format => {
             let tree = script.script();
@@ -113,14 +114,15 @@ fn whole_report<M: Monitor>(alloc: Global, run: &RunEnd<M>) -> Result<Output, Sc
 }
 
 // The head of the script's sequential evaluation.
-fn head_output(alloc: Global, script: &Checked) -> Result<Output, ScriptFault>
-    requires { IsOfText script.now }
-    ensures { (told : Ledgers) → Gives Seq script.now result told told }
+fn head_output(alloc: Global, script: Checked) -> Result<Output, ScriptFault>
+    requires { IsOfText script }
+    ensures { (told : Ledgers) → Gives Seq script result told told }
 {
-    if !is_uncached(script) {
+    if !is_uncached(&script) {
         return Err(ScriptFault::Refused(ScriptRefusal::NotYet));
     }
-    match evaluate(alloc, script, &Losses::new(alloc)) {
+    let script = compiled(alloc, script)?;
+    match evaluate(alloc, &script, &Losses::new(alloc)) {
         Ok(evaluation) => Ok(Output {
             text: head(alloc, &evaluation)?,
             raised: has_raised(&evaluation.main),
@@ -129,6 +131,15 @@ fn head_output(alloc: Global, script: &Checked) -> Result<Output, ScriptFault>
         Err(EvalFault::StoreLimit) => Err(ScriptFault::Limited(Limit::Stored)),
         Err(EvalFault::NoMemory) => Err(ScriptFault::NoMemory),
     }
+}
+
+// The script with its programs.
+fn compiled(alloc: Global, script: Checked) -> Result<CompiledScript, AllocError>
+    requires { IsOfText script }
+    ensures { IfOk result (λ compiled. compiled ≡ script) }
+{
+    let script = Arc::new(alloc, script)?;
+    CompiledScript::of(alloc, script)
 }
 
 fn has_raised(ending: &Ending) -> bool

@@ -1,5 +1,6 @@
 -- The outcome of a call, rule by rule.
-use Rattle.std.proofs.Common.{◌≡◌, ℕ, suc, ◌-◌, ◌<◌, true, List, [], Option, Some, Result, Ok, refl, sym, ◌∙◌, ap, subst, arith, length, slice_get}
+use Rattle.std.proofs.Common.{◌≡◌, ℕ, zero, suc, ◌-◌, ◌<◌, true, false, List, [], Option, Some, Result, Ok, refl, sym, ◌∙◌, ap, subst, arith, length, slice_get}
+use Rattle.std.specs.Prelude.{IfSome}
 use Rattle.flow_base.specs.Paths.{max_path}
 use Rattle.flow_base.specs.declared.value.Value.{Value}
 use Rattle.flow_base.specs.declared.outcome.Exception.{Exception}
@@ -10,14 +11,15 @@ use Rattle.script_tree.specs.declared.tree.AppDef.{AppDef}
 use Rattle.script_tree.specs.Grammar.{Tree}
 use Rattle.flow_meaning.specs.Inputs.{Path}
 use Rattle.flow_meaning.specs.Operators.{Text}
-use Rattle.flow_meaning.specs.Sequential.{Tasks, Ran, join_outcome, runs, settles}
+use Rattle.flow_meaning.specs.Sequential.{Tasks, Ran, apply, join_outcome, lost_or, outcome_of, runs, settles}
 use Rattle.dependency_graph.specs.declared.readiness.Readiness.{Readiness}
 use Rattle.dependency_graph.specs.declared.readiness.Readiness.TheVariants as readiness
 use Rattle.dependency_graph.specs.Readiness.{ready, rest_of_rule}
 use Rattle.call_rules.specs.Calls.{Losses, awaited}
 use Rattle.call_rules.proofs.Agreeing.{join-agrees}
 use Rattle.stored_units.specs.Totals.{storings_in}
-use Rattle.join_apps.specs.Bodies.{IsJoin, result_of}
+use Rattle.compiled_script.specs.Programs.{IsJoin, IsPlainApp}
+use Rattle.join_apps.specs.Bodies.{result_of}
 use Rattle.script_eval.specs.declared.state.EvalState.{EvalState}
 use Rattle.script_eval.specs.declared.evaluation.EvalFault.{EvalFault}
 use Rattle.script_eval.specs.Answering.{RanGives, BodyGives, CanCall, rule_at, rule_below, join_at, body_ran, settled_from}
@@ -27,6 +29,9 @@ use Rattle.script_eval.proofs.Ruling.{rule-is, runs-joins}
 
 pub is-join : (app : Option AppDef) (found : AppDef) → app ≡ Some found → found.join ≡ true → IsJoin app
 is-join app found at is = subst IsJoin (sym at) is
+
+pub is-plain : (app : Option AppDef) (found : AppDef) → app ≡ Some found → found.join ≡ false → IsPlainApp app
+is-plain app found at is = subst IsPlainApp (sym at) is
 
 module _ (tree : Tree) (losses : Losses) (path : Path) (s : EvalState) where
   pub by-ran : (a b : Ran) (now : EvalState) (r : Result Outcome EvalFault) → a ≡ b → RanGives tree losses b s now r → RanGives tree losses a s now r
@@ -50,12 +55,26 @@ module _ (tree : Tree) (losses : Losses) (path : Path) (s : EvalState) where
       → RanGives tree losses (rule_at tree losses path path app arguments names known) s now r
   outcome-runs app arguments names known what values now r is at h = by-ran _ _ now r (rest_at app arguments names known (readiness.Runs values) (sym at ∙ is)) h
 
+  -- what a plain app gives, where its task isn't lost
+  abbrev plain_given : List Value → List Text → AppDef → Outcome
+  plain_given values names app = lost_or (losses path) (outcome_of (apply app values names))
+
+  plain_settles : (room : ℕ) (values : List Value) (names : List Text) (app : AppDef) → app.join ≡ false → runs tree.0 losses room (rule_below tree losses path) path (Some app) values names ≡ settles (plain_given values names app)
+  plain_settles zero values names app is = rw is refl
+  plain_settles (suc room) values names app is = rw is refl
+
   module _ (room k : ℕ) (values : List Value) (names : List Text) where
     abbrev its_runs : Ran
     its_runs = runs tree.0 losses room (rule_below tree losses path) path (slice_get tree.0 k) values names
 
     pub ran-joins : (app : AppDef) (now : EvalState) (r : Result Outcome EvalFault) → slice_get tree.0 k ≡ Some app → app.join ≡ true → RanGives tree losses (join_at tree losses room path k values) s now r → RanGives tree losses its_runs s now r
     ran-joins app now r at is h = by-ran _ _ now r (runs-joins tree losses room path k values names app at is) h
+
+    pub ran-plain : (app : AppDef) (outcome : Outcome) → slice_get tree.0 k ≡ Some app → app.join ≡ false → IfSome (slice_get tree.0 k) (λ found. outcome ≡ plain_given values names found) → RanGives tree losses its_runs s s (Ok outcome)
+    ran-plain app outcome at is gives =
+        let same : outcome ≡ plain_given values names app = subst (λ (o : Option AppDef). IfSome o (λ found. outcome ≡ plain_given values names found)) at gives in
+        let here = ap (λ (o : Option AppDef). runs tree.0 losses room (rule_below tree losses path) path o values names) at in
+        by-ran its_runs (settles (plain_given values names app)) s (Ok outcome) (here ∙ plain_settles room values names app is) (same, added-none tree.0 s)
 
   -- ---- joins
 

@@ -7,8 +7,8 @@ ghost use Rattle.script_eval.specs.Lost.{loss_at};
 use crate::evaluator::Evaluator;
 use crate::losses::Losses;
 use crate::state::EvalState;
+use compiled_script::CompiledScript;
 use flow_base::Evaluation;
-use script_tree::checked::Checked;
 use std::alloc::{AllocError, Global};
 use stored_units::Limit;
 
@@ -49,7 +49,11 @@ impl From<Limit> for EvalFault {
 }
 
 /// The sequential evaluation of a script, where these tasks are lost; or the limit that it meets first.
-pub fn evaluate(alloc: Global, script: &Checked, losses: &Losses) -> Result<Evaluation, EvalFault>
+pub fn evaluate(
+    alloc: Global,
+    script: &CompiledScript,
+    losses: &Losses,
+) -> Result<Evaluation, EvalFault>
     requires { length script.now.tree.0 < 2 ^ 32 }
     ensures { Evaluates script.now.tree (loss_at losses.now) result }
 {

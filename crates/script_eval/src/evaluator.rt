@@ -1,6 +1,6 @@
 //! Bodies with their calls, each evaluated at once.
 
-ghost use Rattle.std.specs.Prelude.{◌≡◌, ◌<◌, ◌≤◌, ◌-◌, ◌^◌, suc, [], length, slice_get, Some, true, IfOk, OnOk};
+ghost use Rattle.std.specs.Prelude.{◌≡◌, ◌<◌, ◌≤◌, ◌-◌, ◌^◌, suc, [], length, slice_get, Some, true, IfOk, IfSome, OnOk};
 ghost use Rattle.std.specs.Option.{option_copied};
 ghost use Rattle.flow_base.specs.Paths.{max_path};
 ghost use Rattle.flow_base.specs.declared.value.Value.{out-Value};
@@ -8,7 +8,7 @@ ghost use Rattle.flow_base.specs.declared.value.Value.TheVariants as v;
 ghost use Rattle.flow_meaning.specs.Evaluations.{name_in};
 ghost use Rattle.flow_meaning.specs.Inputs.{path_in};
 ghost use Rattle.flow_meaning.specs.Sequential as sequential;
-ghost use Rattle.join_apps.specs.Bodies.{IsJoin};
+ghost use Rattle.compiled_script.specs.Programs.{IsJoin, IsPlainApp};
 ghost use Rattle.script_eval.specs.Lost.{loss_at};
 ghost use Rattle.script_eval.specs.Answering.{Begins, BodyGives, CallGives, CanCall, IsEmpty, JoinAnswers, MainAnswers, MainGives, RanGives, body_ran, calls_after, join_at, rule_at, rule_below, settled_from, wait_answer};
 
@@ -18,11 +18,11 @@ use crate::losses::Losses;
 use crate::state::{EvalState, OpenCall};
 use crate::walking::CountedWalk;
 use app_eval::{Reply, Want, apply};
+use compiled_script::CompiledScript;
 use dependency_graph::{Outcomes, Readiness, readiness_of};
 use flow_base::{Ended, Exception, Items, MAX_PATH, Names, Outcome, Path, Text, Value};
 use flow_meaning::{Answer, Request};
 use join_apps::join_outcome;
-use script_tree::checked::Checked;
 use script_tree::tree::AppDef;
 use sqlite_items::at;
 use std::alloc::{AllocError, Global};
@@ -31,7 +31,7 @@ use std::alloc::{AllocError, Global};
 #[derive(Drop)]
 pub struct Evaluator<'a> {
     pub alloc: Global,
-    pub script: &'a Checked,
+    pub script: &'a CompiledScript,
     pub losses: &'a Losses,
 }
 
@@ -215,24 +215,25 @@ impl Evaluator<'_> {
                 if found.join {
                     return self.joined(state, path, app, values);
                 }
-                Ok(self.attempted(path, found, &values, names)?)
+                Ok(self.attempted(path, app, &values, names)?)
             }
         }
     }
 
-    /// The outcome of a plain app.
+    /// The outcome of the plain app of this number.
     fn attempted(
         &self,
         path: &Path,
-        app: &AppDef,
+        app: u32,
         values: &Items,
         names: &Names,
     ) -> Result<Outcome, AllocError>
-        ensures { IfOk result (λ outcome. outcome ≡ sequential.lost_or (loss_at self.now.losses.now path.now) (sequential.outcome_of (sequential.apply app.now values.now names.now))) }
+        requires { IsPlainApp (slice_get self.now.script.now.tree.0 app) }
+        ensures { IfOk result (λ outcome. IfSome (slice_get self.now.script.now.tree.0 app) (λ found. outcome ≡ sequential.lost_or (loss_at self.now.losses.now path.now) (sequential.outcome_of (sequential.apply found values.now names.now)))) }
     {
         match self.losses.manager(path) {
             Some(manager) => Ok(Outcome::Failed(Exception::ManagerLost(manager))),
-            None => Ok(outcome_of(apply(self.alloc, app, values, names)?)),
+            None => Ok(outcome_of(apply(self.alloc, self.script, app, values, names)?)),
         }
     }
 

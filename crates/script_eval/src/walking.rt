@@ -2,11 +2,12 @@
 
 ghost use Rattle.std.specs.Prelude.{◌≡◌, ◌+◌, ◌-◌, ◌<◌, ◌^◌, suc, length, slice_get, IfOk, OnOk};
 ghost use Rattle.flow_meaning.specs.Walk.{body_act, main_act};
+ghost use Rattle.compiled_script.specs.Programs.{IsJoin};
 ghost use Rattle.app_eval.specs.Walks.{Resumes, left_of, rest_of};
 
 use app_eval::{Reply, Walker, Want};
+use compiled_script::CompiledScript;
 use flow_base::Items;
-use script_tree::checked::Checked;
 use std::alloc::{AllocError, Global};
 
 /// What a walk was told.
@@ -28,7 +29,7 @@ pub struct CountedWalk {
 
 impl CountedWalk {
     /// The walk of main at its beginning.
-    pub fn main(alloc: Global, script: &Checked) -> Result<CountedWalk, AllocError>
+    pub fn main(alloc: Global, script: &CompiledScript) -> Result<CountedWalk, AllocError>
         requires { length script.now.tree.0 < 2 ^ 32 }
         ensures left { IfOk result (λ w. left_of w.walker ≡ main_act script.now.tree) }
         ensures rest { IfOk result (λ w. length w.told.items + rest_of w.walker ≡ 2 ^ 64 - 1) }
@@ -42,12 +43,13 @@ impl CountedWalk {
     /// The walk of a join's body at its beginning.
     pub fn join(
         alloc: Global,
-        script: &Checked,
+        script: &CompiledScript,
         app: u32,
         arguments: Items,
     ) -> Result<CountedWalk, AllocError>
         requires few { length script.now.tree.0 < 2 ^ 32 }
         requires app { app < length script.now.tree.0 }
+        requires join { IsJoin (slice_get script.now.tree.0 app) }
         ensures left { IfOk result (λ w. left_of w.walker ≡ body_act script.now.tree (slice_get script.now.tree.0 app) arguments) }
         ensures rest { IfOk result (λ w. length w.told.items + rest_of w.walker ≡ 2 ^ 64 - 1) }
     {

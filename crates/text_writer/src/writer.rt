@@ -5,13 +5,13 @@ ghost use Rattle.std.specs.Fmt.{decimal, signed_decimal};
 ghost use Rattle.text_writer.specs.Written.{quoted, path_text, behind, escaped};
 
 use flow_base::{Path, Text};
+use itoa::Buffer;
 use std::alloc::{AllocError, Global};
 use std::marker::Model;
 
 /// Bytes that grow at their end. Contracts see their list.
 #[derive(Drop)]
 pub struct Writer {
-    alloc: Global,
     bytes: Vec<u8>,
 }
 
@@ -29,7 +29,6 @@ impl Writer {
         ensures { result ≡ [] }
     {
         Writer {
-            alloc,
             bytes: Vec::new(alloc),
         }
     }
@@ -52,24 +51,21 @@ impl Writer {
     pub fn number(&mut self, n: u32) -> Result<(), AllocError>
         ensures { OnOk result (self.new ≡ self.old ++ decimal n) }
     {
-        let text = n.to_string(self.alloc)?;
-        self.add(text.as_bytes())
+        self.add(Buffer::new().format(n).as_bytes())
     }
 
     /// Adds a number of up to 20 digits in decimal.
     pub fn long(&mut self, n: u64) -> Result<(), AllocError>
         ensures { OnOk result (self.new ≡ self.old ++ decimal n) }
     {
-        let text = n.to_string(self.alloc)?;
-        self.add(text.as_bytes())
+        self.add(Buffer::new().format(n).as_bytes())
     }
 
     /// Adds a number in decimal, with `-` before it where it is below 0.
     pub fn signed(&mut self, n: i64) -> Result<(), AllocError>
         ensures { OnOk result (self.new ≡ self.old ++ signed_decimal n) }
     {
-        let text = n.to_string(self.alloc)?;
-        self.add(text.as_bytes())
+        self.add(Buffer::new().format(n).as_bytes())
     }
 
     fn escape(&mut self, byte: u8) -> Result<(), AllocError>

@@ -1,20 +1,31 @@
 //! Walks of main and of a join, want by want.
 
+ghost use Rattle.std.specs.Prelude.{◌≡◌, ◌<◌, ◌^◌, length, IfOk};
+
 use app_check::check;
 use app_eval::{Reply, Walker, Want};
 use app_script::parse::parse;
+use compiled_script::CompiledScript;
 use flow_base::{Ended, Exception, FileOut, Files, Items, Outcome, Path, Text, Value};
 use flow_meaning::{Answer, Request};
 use run_report::lines::print_exception;
 use run_report::value::print_value;
-use script_tree::checked::Checked;
 use sqlite_items::Items as ListOf;
 use std::alloc::{AllocError, Global};
+use std::sync::Arc;
 use std::test::Fail;
 use text_writer::Writer;
 
-fn checked(alloc: Global, bytes: &str) -> Result<Checked, Fail> {
-    Ok(check(alloc, parse(alloc, bytes.as_bytes())?)?)
+/// The script of a text that has so many apps.
+fn compiled(alloc: Global, bytes: &str, apps: usize) -> Result<CompiledScript, Fail>
+    requires { apps < 2 ^ 32 }
+    ensures { IfOk result (λ script. length script.tree.0 ≡ apps) }
+{
+    let script = check(alloc, parse(alloc, bytes.as_bytes())?)?;
+    if script.script().apps().len() != apps {
+        return Err(Fail::new("another number of apps"));
+    }
+    Ok(CompiledScript::of(alloc, Arc::new(alloc, script)?)?)
 }
 
 fn print_values(writer: &mut Writer, values: &[Value]) -> Result<(), AllocError> {
@@ -209,12 +220,7 @@ const MAIN_WANTS: [(Told, &str); 14] = [
 #[test]
 fn main_is_walked_want_by_want(rt: HostRuntime) -> Result<(), Fail> {
     let alloc = rt.alloc();
-    let script = checked(alloc, MAIN)?;
-    let count = script.script().apps().len();
-    assert_eq!(rt; count, 2);
-    if count != 2 {
-        return Ok(());
-    }
+    let script = compiled(alloc, MAIN, 2)?;
     let mut walker = Walker::main(alloc, &script)?;
     for (told, wanted) in MAIN_WANTS {
         let given = next(alloc, &mut walker, told)?;
@@ -245,12 +251,7 @@ const RAISING_WANTS: [(Told, &str); 5] = [
 #[test]
 fn main_raises_the_exception_of_a_task(rt: HostRuntime) -> Result<(), Fail> {
     let alloc = rt.alloc();
-    let script = checked(alloc, RAISING)?;
-    let count = script.script().apps().len();
-    assert_eq!(rt; count, 1);
-    if count != 1 {
-        return Ok(());
-    }
+    let script = compiled(alloc, RAISING, 1)?;
     let mut walker = Walker::main(alloc, &script)?;
     for (told, wanted) in RAISING_WANTS {
         let given = next(alloc, &mut walker, told)?;
@@ -291,10 +292,10 @@ fn five(alloc: Global) -> Result<Items, AllocError> {
 #[test]
 fn a_join_is_walked_call_by_call(rt: HostRuntime) -> Result<(), Fail> {
     let alloc = rt.alloc();
-    let script = checked(alloc, JOIN)?;
-    let count = script.script().apps().len();
-    assert_eq!(rt; count, 2);
-    if count != 2 {
+    let script = compiled(alloc, JOIN, 2)?;
+    let is_join = script.script().apps()[1].join;
+    assert!(rt; is_join);
+    if !is_join {
         return Ok(());
     }
     let mut walker = Walker::body(alloc, &script, 1, five(alloc)?)?;
@@ -327,12 +328,7 @@ fn later(alloc: Global, walker: &mut Walker, count: u32) -> Result<String, Fail>
 #[test]
 fn a_walk_has_100000_wants(rt: HostRuntime) -> Result<(), Fail> {
     let alloc = rt.alloc();
-    let script = checked(alloc, COUNTING)?;
-    let count = script.script().apps().len();
-    assert_eq!(rt; count, 0);
-    if count != 0 {
-        return Ok(());
-    }
+    let script = compiled(alloc, COUNTING, 0)?;
     let mut walker = Walker::main(alloc, &script)?;
     let first = next(alloc, &mut walker, Told::Begin)?;
     assert_eq!(rt; first.as_str(), "print 0");

@@ -1,4 +1,4 @@
-use Rattle.std.proofs.Common.{◌≡◌, ◌∙◌, map, sym}
+use Rattle.std.proofs.Common.{◌∙◌, map, sym}
 use Rattle.parsl_engine.proofs.Courses.{not_two}
 use Rattle.parsl_engine.proofs.top.parsl_top.Goals as goal
 

@@ -1,4 +1,4 @@
-use Rattle.parsl_engine.proofs.Courses.{course-read, course-unread}
+use Rattle.parsl_engine.proofs.Courses.{course-read}
 use Rattle.parsl_engine.specs.declared.words.Command.TheVariants.{Run}
 use Rattle.parsl_engine.proofs.top.run.Goals as goal
 

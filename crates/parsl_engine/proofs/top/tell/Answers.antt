@@ -1,4 +1,4 @@
-use Rattle.parsl_engine.proofs.Courses.{course-read, course-unread}
+use Rattle.parsl_engine.proofs.Courses.{course-read}
 use Rattle.parsl_engine.proofs.top.tell.Goals as goal
 
 pub returns-in-Ok : goal.returns-in-Ok

@@ -9,7 +9,7 @@ pub returns-clause-evaluation : goal.returns-clause-evaluation
 returns-clause-evaluation c =
     let k = c.self.inside in
     let whole : parts_of c.apps.result.now k.tasks.items k.steps.items k.ending ≡ evaluated c.args.self =
-    rw (c.apps.ensures.apps, c.script.ensures.script, c.deref.ensures) (parts-are _ _ k.tasks.items k.steps.items c.self.view_is refl refl refl) in
+    rw (c.apps.ensures.apps, c.script-2.ensures.script) (parts-are _ _ k.tasks.items k.steps.items c.self.view_is refl refl refl) in
     subst (λ (e : Evaluation). IfOk c.evaluation_of-evaluation.result (λ evaluation. evaluation ≡ e)) whole c.evaluation_of-evaluation.ensures
 
 pub evaluation_of-evaluation-requires : goal.evaluation_of-evaluation-requires

@@ -1,5 +1,4 @@
 use Rattle.std.proofs.Common.{[], refl, arith, ◌∙◌}
-use Rattle.std.specs.Arc.{arc_value}
 use Rattle.kernel_core.proofs.MainWrites.{Writes, adds-few, submit-new, submit-view, submit-sound, submit-indexed}
 use Rattle.kernel_core.proofs.run_state.RunState.submit.Goals as goal
 
@@ -34,15 +33,15 @@ overflow_add-self c =
 pub invariant_of-self-2 : goal.invariant_of-self-2
 invariant_of-self-2 c =
     let k = c.self.inside in
-    let writes : Writes (arc_value k.script).tree k.tasks.items c.args.app c.args.arguments c.args.names c.args.path c.len-k.result c.pending.new.self c.in_ok-submitted.submitted c.in_ok-name.name = record {
+    let writes : Writes k.script.tree k.tasks.items c.args.app c.args.arguments c.args.names c.args.path c.len-k.result c.pending.new.self c.in_ok-submitted.submitted c.in_ok-name.name = record {
       number = omega (arith, c.len-k.ensures);
       made = rw (c.pending.ensures, c.new-record.ensures) refl;
       copied = c.in_ok-submitted.ensures;
-      named = rw (← c.deref.ensures, ← c.script.ensures.script, ← c.apps.ensures.apps) c.in_ok-name.ensures;
+      named = rw (← c.script.ensures.script, ← c.apps.ensures.apps) c.in_ok-name.ensures;
     } in
-    let view = submit-view _ (arc_value k.script).tree k.tasks.items k.steps.items k.arrived k.ending k.log.items k.refusal [] k.running k.stored c.args.units c.args.app c.args.arguments c.args.names c.args.path c.len-k.result c.pending.new.self c.in_ok-submitted.submitted c.in_ok-name.name c.self.invariant.0 c.self.view_is c.requires.adds writes in (
+    let view = submit-view _ k.script.tree k.tasks.items k.steps.items k.arrived k.ending k.log.items k.refusal [] k.running k.stored c.args.units c.args.app c.args.arguments c.args.names c.args.path c.len-k.result c.pending.new.self c.in_ok-submitted.submitted c.in_ok-name.name c.self.invariant.0 c.self.view_is c.requires.adds writes in (
       rw (c.push_reserved.ensures.items, c.push_reserved-2.ensures.items, c.push_reserved-3.ensures.items, c.in_ok-reserve.ensures.items, c.in_ok-reserve-2.ensures.items, c.in_ok-reserve-3.ensures.items)
-          (submit-sound _ (arc_value k.script).tree k.tasks.items k.steps.items k.arrived k.ending k.log.items k.refusal [] k.running k.stored c.args.units c.args.app c.args.arguments c.args.names c.args.path c.len-k.result c.pending.new.self c.in_ok-submitted.submitted c.in_ok-name.name c.self.invariant.0 c.self.view_is c.requires.asks c.requires.adds writes),
+          (submit-sound _ k.script.tree k.tasks.items k.steps.items k.arrived k.ending k.log.items k.refusal [] k.running k.stored c.args.units c.args.app c.args.arguments c.args.names c.args.path c.len-k.result c.pending.new.self c.in_ok-submitted.submitted c.in_ok-name.name c.self.invariant.0 c.self.view_is c.requires.asks c.requires.adds writes),
       rw (c.push_reserved.ensures.items, c.push_reserved-2.ensures.items, c.push_reserved-3.ensures.items, c.in_ok-reserve.ensures.items, c.in_ok-reserve-2.ensures.items, c.in_ok-reserve-3.ensures.items)
           (submit-indexed _ c.args.self.now _ k.places c.add.new.self k.mains c.args.units c.args.app c.args.arguments c.args.names c.args.path c.self.view_is c.self.invariant.1 c.requires.adds c.in_ok-add.ensures.added view),
       omega (arith, c.in_ok-reserve-3.ensures.ok),
@@ -51,11 +50,11 @@ invariant_of-self-2 c =
 pub returns-clause-ok : goal.returns-clause-ok
 returns-clause-ok c =
     let k = c.self.inside in
-    let writes : Writes (arc_value k.script).tree k.tasks.items c.args.app c.args.arguments c.args.names c.args.path c.len-k.result c.pending.new.self c.in_ok-submitted.submitted c.in_ok-name.name = record {
+    let writes : Writes k.script.tree k.tasks.items c.args.app c.args.arguments c.args.names c.args.path c.len-k.result c.pending.new.self c.in_ok-submitted.submitted c.in_ok-name.name = record {
       number = omega (arith, c.len-k.ensures);
       made = rw (c.pending.ensures, c.new-record.ensures) refl;
       copied = c.in_ok-submitted.ensures;
-      named = rw (← c.deref.ensures, ← c.script.ensures.script, ← c.apps.ensures.apps) c.in_ok-name.ensures;
+      named = rw (← c.script.ensures.script, ← c.apps.ensures.apps) c.in_ok-name.ensures;
     } in
     rw (c.push_reserved.ensures.items, c.push_reserved-2.ensures.items, c.push_reserved-3.ensures.items, c.in_ok-reserve.ensures.items, c.in_ok-reserve-2.ensures.items, c.in_ok-reserve-3.ensures.items)
-    (submit-view _ (arc_value k.script).tree k.tasks.items k.steps.items k.arrived k.ending k.log.items k.refusal [] k.running k.stored c.args.units c.args.app c.args.arguments c.args.names c.args.path c.len-k.result c.pending.new.self c.in_ok-submitted.submitted c.in_ok-name.name c.self.invariant.0 c.self.view_is c.requires.adds writes)
+    (submit-view _ k.script.tree k.tasks.items k.steps.items k.arrived k.ending k.log.items k.refusal [] k.running k.stored c.args.units c.args.app c.args.arguments c.args.names c.args.path c.len-k.result c.pending.new.self c.in_ok-submitted.submitted c.in_ok-name.name c.self.invariant.0 c.self.view_is c.requires.adds writes)

@@ -1,5 +1,4 @@
 use Rattle.std.proofs.Common.{refl, arith}
-use Rattle.std.specs.Arc.{arc_value}
 use Rattle.kernel_core.proofs.Joining.{on-err, tasks-distinct, join-writes}
 use Rattle.kernel_core.proofs.run_state.RunState.submit_calls.Goals as goal
 
@@ -33,21 +32,21 @@ returns-in_err-add_paths-clause-err c = on-err c.from_residual-in_err-add_paths.
 pub invariant_of-self-2 : goal.invariant_of-self-2
 invariant_of-self-2 c =
     let a = join-writes _ c.args.self.now c.self.inside.places c.add_paths.new.places c.self.inside.tasks.items c.reserve.new.self.items c.append_reserved.new.list.items c.in_ok-tasks.tasks.items c.self.inside.steps.items c.self.inside.log.items c.reserve-2.new.self.items c.append_reserved-2.new.list.items c.in_ok-entries.entries.items
-    c.self.inside.running c.self.inside.stored c.args.units c.self.inside.mains c.args.k c.args.ended c.args.calls.items c.index_mut.result.now c.index_mut-2.result.now c.index.result.now c.joining.new.self c.path.result.now (arc_value c.self.inside.script).tree refl
+    c.self.inside.running c.self.inside.stored c.args.units c.self.inside.mains c.args.k c.args.ended c.args.calls.items c.index_mut.result.now c.index_mut-2.result.now c.index.result.now c.joining.new.self c.path.result.now c.self.inside.script.tree refl
     c.self.view_is (record { is = refl; sound = c.self.invariant.0 }) c.self.invariant.1 c.requires
     c.in_ok-reserve.ensures.items c.index_mut.ensures.value c.joining.ensures c.index_mut-2.ensures.value c.index.ensures c.path.ensures
     c.in_ok-tasks.ensures c.append_reserved.ensures.items
-    (rw (← c.deref.ensures, ← c.script.ensures.script, ← c.apps.ensures.apps, ← c.as_slice.ensures.value) c.in_ok-entries.ensures) c.in_ok-reserve-2.ensures.items c.append_reserved-2.ensures.items
+    (rw (← c.script.ensures.script, ← c.apps.ensures.apps, ← c.as_slice.ensures.value) c.in_ok-entries.ensures) c.in_ok-reserve-2.ensures.items c.append_reserved-2.ensures.items
     (rw (← c.as_slice-2.ensures.value) c.in_ok-add_paths.ensures.ok) in
     (a.wrote.sound, a.indexed, omega (arith, c.in_ok-reserve-2.ensures.ok, c.len-2.ensures, c.append_reserved-2.ensures.len, c.append_reserved-2.ensures.capacity))
 
 pub returns-clause-ok : goal.returns-clause-ok
 returns-clause-ok c =
     let a = join-writes _ c.args.self.now c.self.inside.places c.add_paths.new.places c.self.inside.tasks.items c.reserve.new.self.items c.append_reserved.new.list.items c.in_ok-tasks.tasks.items c.self.inside.steps.items c.self.inside.log.items c.reserve-2.new.self.items c.append_reserved-2.new.list.items c.in_ok-entries.entries.items
-    c.self.inside.running c.self.inside.stored c.args.units c.self.inside.mains c.args.k c.args.ended c.args.calls.items c.index_mut.result.now c.index_mut-2.result.now c.index.result.now c.joining.new.self c.path.result.now (arc_value c.self.inside.script).tree refl
+    c.self.inside.running c.self.inside.stored c.args.units c.self.inside.mains c.args.k c.args.ended c.args.calls.items c.index_mut.result.now c.index_mut-2.result.now c.index.result.now c.joining.new.self c.path.result.now c.self.inside.script.tree refl
     c.self.view_is (record { is = refl; sound = c.self.invariant.0 }) c.self.invariant.1 c.requires
     c.in_ok-reserve.ensures.items c.index_mut.ensures.value c.joining.ensures c.index_mut-2.ensures.value c.index.ensures c.path.ensures
     c.in_ok-tasks.ensures c.append_reserved.ensures.items
-    (rw (← c.deref.ensures, ← c.script.ensures.script, ← c.apps.ensures.apps, ← c.as_slice.ensures.value) c.in_ok-entries.ensures) c.in_ok-reserve-2.ensures.items c.append_reserved-2.ensures.items
+    (rw (← c.script.ensures.script, ← c.apps.ensures.apps, ← c.as_slice.ensures.value) c.in_ok-entries.ensures) c.in_ok-reserve-2.ensures.items c.append_reserved-2.ensures.items
     (rw (← c.as_slice-2.ensures.value) c.in_ok-add_paths.ensures.ok) in
     a.wrote.view

@@ -1,4 +1,5 @@
 use Rattle.std.proofs.Common.{◌-◌, ◌<◌, length, refl, sym, ◌∙◌, ap, arith}
+use Rattle.std.specs.Prelude.{slice_get}
 use Rattle.std.specs.Option.{option_copied}
 use Rattle.dependency_graph.specs.Readiness.{ready}
 use Rattle.app_eval.specs.Walks.{left_of, answers_of}
@@ -8,7 +9,7 @@ use Rattle.script_eval.specs.Answering.{settled_from}
 use Rattle.script_eval.specs.declared.evaluator.Caller.{Caller}
 use Rattle.script_eval.proofs.Calling.{its-can, its-length, place-there, call-unbegun, call-unsettled, call-settled, call-refused}
 use Rattle.script_eval.proofs.Joining.{joins-start, joins-can, joins-on-calls, joins-refused-at, joins-ended, can-of, from-zero}
-use Rattle.script_eval.proofs.Outcomes.{outcome-settles, outcome-runs, ran-joins, joined-ends}
+use Rattle.script_eval.proofs.Outcomes.{is-plain, outcome-settles, outcome-runs, ran-joins, ran-plain, joined-ends}
 use Rattle.script_eval.proofs.evaluator.Evaluator.+calls.Goals as goal
 
 -- ---- a call
@@ -73,6 +74,14 @@ pub ran-returns-then-found : goal.ran-returns-then-found
 ran-returns-then-found t c =
     ran-joins c.args.self.now.script.now.tree (loss_at c.args.self.now.losses.now) c.args.path.now c.args.state.now (64 - length c.args.path.now) c.args.app c.args.values c.args.names.now c.in-Some.found.now c.joined.new.state c.joined.result
     (sym c.app.ensures ∙ ap option_copied c.in-Some.is) c.if-found.true c.joined.ensures
+
+pub ran-attempted-requires : goal.ran-attempted-requires
+ran-attempted-requires t c = is-plain (slice_get c.args.self.now.script.now.tree.0 c.args.app) c.in-Some.found.now (sym c.app.ensures ∙ ap option_copied c.in-Some.is) c.if-found.false
+
+pub ran-returns : goal.ran-returns
+ran-returns t c =
+    ran-plain c.args.self.now.script.now.tree (loss_at c.args.self.now.losses.now) c.args.path.now c.args.state.now (64 - length c.args.path.now) c.args.app c.args.values c.args.names.now c.in-Some.found.now c.in_ok-attempted-in-Some.field-0
+    (sym c.app.ensures ∙ ap option_copied c.in-Some.is) c.if-found.false c.in_ok-attempted-in-Some.ensures
 
 pub joined-returns : goal.joined-returns
 joined-returns t c =
