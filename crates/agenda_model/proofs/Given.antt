@@ -1,5 +1,5 @@
 -- Which callbacks are ready, and the one that is given next.
-use Rattle.std.proofs.Common.{◌≡◌, ◌≢◌, ◌⊎◌, inl, inr, ℕ, zero, suc, ◌+◌, ◌<◌, ◌≤◌, Bool, true, false, not, ◌||◌, nat_eq, List, [], ◌∷◌, length, get_or, take, Option, Some, None, IsSome, slice_get, refl, sym, ◌∙◌, ap, subst, arith, eq-eqb, eqb-true, true≢false, if◌then◌else◌}
+use Rattle.std.proofs.Common.{◌≡◌, ◌≢◌, ◌⊎◌, inl, inr, ℕ, zero, suc, ◌+◌, ◌<◌, Bool, true, false, not, ◌||◌, nat_eq, List, [], ◌∷◌, length, get_or, take, Option, Some, None, IsSome, slice_get, refl, sym, ◌∙◌, ap, subst, arith, eq-eqb, eqb-true, true≢false, if◌then◌else◌}
 use Rattle.std.specs.Prelude.{Result}
 use Rattle.std.proofs.lemmas.Bool.{cases_lt}
 use Rattle.std.proofs.lemmas.List.{get_or_past}
@@ -9,7 +9,6 @@ use Rattle.flow_base.specs.declared.outcome.Outcome.{Outcome}
 use Rattle.task_record.specs.declared.status.Status.{Status}
 use Rattle.task_record.specs.declared.status.Status.TheVariants as status
 use Rattle.task_record.specs.States.{is_settled}
-use Rattle.dependency_graph.specs.declared.callback.FutureState.{FutureState}
 use Rattle.dependency_graph.specs.declared.callback.FutureState.TheVariants as state
 use Rattle.dependency_graph.specs.declared.callback.Callback.{Callback}
 use Rattle.dependency_graph.specs.declared.callback.Callback.TheVariants.{Launch, DepFail, JoinDone}
@@ -19,16 +18,17 @@ use Rattle.dependency_graph.specs.CallbackViews.{CallbackView}
 use Rattle.dependency_graph.specs.Callbacks.{Callbacks, IsExact, IsReadyCallback, AreDistinctNumbers, is_open, state_in, all_settled, has_number, waits_at, to_do, to_do_by, to_do_of, next_in, next_of, with_given_by}
 use Rattle.dependency_graph.specs.Graphs.{Graph, with_next}
 use Rattle.dependency_graph.proofs.Numbers.{is-false, or-cases, or-right, and-split, not-eq}
-use Rattle.flow_meaning.specs.Inputs.{Path, inputs, distinct}
+use Rattle.flow_meaning.specs.Inputs.{inputs, distinct}
 use Rattle.flow_meaning.specs.Meaning.{Done}
 use Rattle.flow_meaning.specs.Sequential.{outcome_at}
 use Rattle.body_requests.specs.Asks.{Each}
 use Rattle.call_rules.specs.Calls.{Call, awaited}
 use Rattle.call_rules.specs.Groups.{AllKnown}
-use Rattle.kernel_model.specs.Known.{Known, Life, no_call, no_life, life_at, status_at, outcome_in, settled_outcome, path_at, known}
+use Rattle.kernel_model.specs.Known.{Known, Life, no_call, no_life, life_at, outcome_in, path_at, known}
 use Rattle.kernel_model.specs.Invariants.{IsReached, Tracks}
 use Rattle.kernel_model.proofs.Places.{known-at}
 use Rattle.agenda_model.specs.Agendas.{Ties, HasStatus, IsLeft, IsCurrent, IsCurrentAs, paths_at}
+use Rattle.agenda_model.proofs.NumberLists.{get-has}
 use Rattle.agenda_model.proofs.Named.{IsNamed}
 
 -- ---- settled tasks
@@ -45,7 +45,7 @@ reached_end : (life : Life) (s : Status) → IsReached life s → is_settled s �
 reached_end life status.ExecDone r h = r
 reached_end life status.Failed r h = r
 reached_end life status.DepFail r h = r
-reached_end life status.MemoDone r h = absurd r
+reached_end life status.MemoDone r h = r
 reached_end life status.Unsched r h = absurd (true≢false (sym h))
 reached_end life status.Pending r h = absurd (true≢false (sym h))
 reached_end life status.Launched r h = absurd (true≢false (sym h))
@@ -102,11 +102,6 @@ ready-inputs g c view at ready = ap (all_settled g.states) (sym (waits_there g.w
 
 -- ---- the first numbers of a list
 
-get_has : (xs : List ℕ) (i c : ℕ) → slice_get xs i ≡ Some c → has_number c xs ≡ true
-get_has [] i c h = absurd (cc)
-get_has (x ∷ xs) zero c h = let same : c ≡ x = cc in ap (λ (b : Bool). b || has_number c xs) (eq-eqb c x same)
-get_has (x ∷ xs) (suc i) c h = or-right (nat_eq c x) (has_number c xs) (get_has xs i c h)
-
 -- one number more is the next one
 take_next : (xs : List ℕ) (i c n : ℕ) → slice_get xs i ≡ Some c → has_number n (take (suc i) xs) ≡ true → (has_number n (take i xs) ≡ true) ⊎ (n ≡ c)
 take_next [] i c n at h = absurd (cc)
@@ -138,7 +133,7 @@ take_lacks : (xs : List ℕ) (i c : ℕ) → AreDistinctNumbers xs → slice_get
 take_lacks xs zero c distinct h = refl
 take_lacks [] (suc i) c distinct h = absurd (cc)
 take_lacks (x ∷ xs) (suc i) c distinct h =
-    let other : nat_eq c x ≡ false = not-eq c x (λ same. true≢false (sym (ap (λ (n : ℕ). has_number n xs) (sym same) ∙ get_has xs i c h) ∙ distinct.0)) in
+    let other : nat_eq c x ≡ false = not-eq c x (λ same. true≢false (sym (ap (λ (n : ℕ). has_number n xs) (sym same) ∙ get-has xs i c h) ∙ distinct.0)) in
     rw other (take_lacks xs i c distinct.1 h)
 
 -- ---- the callback that is given
@@ -165,7 +160,7 @@ pub next-left : (g : Callbacks) (t : Callback) (n : IsNext g t) → IsExact g �
 next-left g t n exact = take_lacks g.made g.given n.number exact.once n.next
 
 pub next-ready : (g : Callbacks) (t : Callback) (n : IsNext g t) → IsExact g → all_settled g.states n.view.inputs ≡ true
-next-ready g t n exact = ready-inputs g n.number n.view n.there (exact.only n.number (get_has g.made g.given n.number n.next))
+next-ready g t n exact = ready-inputs g n.number n.view n.there (exact.only n.number (get-has g.made g.given n.number n.next))
 
 abbrev given_graph : Graph → Graph
 given_graph g = record g { callbacks = record g.callbacks { given = g.callbacks.given + 1 } }

@@ -10,3 +10,4 @@ pub mod Named
 pub mod Given
 pub mod Carrying
 pub mod Submitting
+pub mod Fronts

@@ -1,14 +1,15 @@
 -- Queues of the tasks in one state, and counts of tasks, through a write.
-use Rattle.std.proofs.Common.{◌≡◌, ◌≢◌, ◌⊎◌, inl, inr, ℕ, zero, suc, ◌+◌, ◌<◌, ◌≤◌, Bool, true, false, ◌||◌, nat_eq, if◌then◌else◌, List, [], ◌∷◌, ◌++◌, length, get_or, set, refl, sym, ◌∙◌, ap, subst, arith, eq-eqb, eqb-true, true≢false}
+use Rattle.std.proofs.Common.{◌≡◌, ◌≢◌, inl, inr, ℕ, zero, suc, ◌+◌, ◌<◌, ◌≤◌, Bool, true, false, ◌||◌, nat_eq, if◌then◌else◌, List, [], ◌∷◌, ◌++◌, length, get_or, set, remove, slice_get, Some, refl, sym, ◌∙◌, ap, arith, eq-eqb, eqb-true, true≢false}
 use Rattle.std.proofs.lemmas.Bool.{cases_eq, cases_lt}
 use Rattle.std.proofs.lemmas.List.{get_or-set_same, get_or-set_other, get_or_past}
 use Rattle.task_record.specs.declared.status.Status.{Status}
 use Rattle.task_record.specs.declared.status.Status.TheVariants as status
 use Rattle.task_record.specs.States.{is_settled}
-use Rattle.dependency_graph.specs.Callbacks.{has_number, AreDistinctNumbers}
-use Rattle.dependency_graph.proofs.Numbers.{is-false, or-cases, or-right, has-left, has-right, has-either, distinct-append}
+use Rattle.dependency_graph.specs.Callbacks.{has_number}
+use Rattle.dependency_graph.proofs.Numbers.{is-false, or-cases, has-left, has-right, has-either, distinct-append}
 use Rattle.kernel_model.specs.Known.{Life, no_life}
 use Rattle.agenda_model.specs.Agendas.{IsQueue, HasStatus, runs, running_in, unsettled_in}
+use Rattle.agenda_model.proofs.NumberLists.{remove-has, remove-keeps, remove-distinct, remove-lacks}
 
 -- ---- states through a write
 
@@ -72,22 +73,23 @@ module _ (lives : List Life) (s : Status) (k : ℕ) (life : Life) (within : k < 
     ];
   }
 
-  -- the first task leaves this state
-  pub queue-popped : (q : List ℕ) → life.status ≢ s → IsQueue (k ∷ q) (HasStatus lives s) → IsQueue q (HasStatus (set lives k life) s)
-  queue-popped q new h = record {
-    once = h.once.1;
+  -- the task at a place leaves this state
+  pub queue-removed : (q : List ℕ) (i : ℕ) → slice_get q i ≡ Some k → life.status ≢ s → IsQueue q (HasStatus lives s) → IsQueue (remove q i) (HasStatus (set lives k life) s)
+  queue-removed q i at new h = record {
+    once = remove-distinct q i h.once;
     only = λ j has. elim (cases_eq j k) [
-      | inl same ↦ absurd (true≢false (sym has ∙ ap (λ (i : ℕ). has_number i q) same ∙ h.once.0))
-      | inr ne ↦ status-other lives k j life ne ∙ h.only j (or-right (nat_eq j k) (has_number j q) has)
+      | inl same ↦ absurd (true≢false (sym has ∙ ap (λ (n : ℕ). has_number n (remove q i)) same ∙ remove-lacks q i k h.once at))
+      | inr ne ↦ status-other lives k j life ne ∙ h.only j (remove-has q i j has)
     ];
     all = λ j is. elim (cases_eq j k) [
-      | inl same ↦ absurd (new (sym (status-here lives k life within) ∙ ap (λ (i : ℕ). (get_or (set lives k life) i no_life).status) (sym same) ∙ is))
-      | inr ne ↦ elim (or-cases (nat_eq j k) (has_number j q) (h.all j (sym (status-other lives k j life ne) ∙ is))) [
-        | inl same ↦ absurd (ne (eqb-true j k same))
-        | inr rest ↦ rest
-      ]
+      | inl same ↦ absurd (new (sym (status-here lives k life within) ∙ ap (λ (n : ℕ). (get_or (set lives k life) n no_life).status) (sym same) ∙ is))
+      | inr ne ↦ remove-keeps q i k j at ne (h.all j (sym (status-other lives k j life ne) ∙ is))
     ];
   }
+
+  -- the first task leaves this state
+  pub queue-popped : (q : List ℕ) → life.status ≢ s → IsQueue (k ∷ q) (HasStatus lives s) → IsQueue q (HasStatus (set lives k life) s)
+  queue-popped q new h = queue-removed (k ∷ q) 0 refl new h
 
 -- ---- counts
 

@@ -27,8 +27,9 @@ use Rattle.kernel_model.specs.Turns.{IsCallback}
 use Rattle.kernel_model.proofs.KeepingSubmits.{keep-joined}
 use Rattle.kernel_model.proofs.KeepingTasks.{joining-within}
 use Rattle.agenda_model.specs.AgendaViews.{AgendaView}
-use Rattle.agenda_model.specs.Agendas.{HasStatus, IsQueue, Serves, ServesTasks, Ties, runs, unsettled_in}
+use Rattle.agenda_model.specs.Agendas.{HasStatus, IsQueue, ServesTasks, Ties, runs, unsettled_in}
 use Rattle.agenda_model.specs.Storing.{CanStoreJoin, CanStoreJoinOf, with_join_run, with_tasks}
+use Rattle.agenda_model.proofs.Carrying.{HasTasks}
 use Rattle.agenda_model.proofs.JoinCalls.{awaited-long, call-inputs, call-path, can-join, inputs-long, next-new, returned}
 use Rattle.agenda_model.proofs.JoinEnds.{Children, Follow, can-add-all, children-all, children-there, holds-now, holds-put, tasks-paths, ties-ended}
 use Rattle.agenda_model.proofs.NewTasks.{Holds, holds-all, ties-pushed}
@@ -83,7 +84,7 @@ next_absent : (w : Known) (paths : List Path) → Inv w → paths ≡ paths_of w
 next_absent w paths inv is = absent paths (next_path w) (λ k q at same. (let read = path-read w.calls k q (ap (λ (ps : List Path). slice_get ps k) (sym is) ∙ at) in next-new w inv.holds.tracks k read.within (read.is ∙ same)))
 
 -- its path is new, and its inputs are earlier calls of main
-pub can-add : (a : AgendaView) (w : Known) (app : ℕ) (arguments : List Value) (names : List Text) → Inv w → MainAsks w (request.Call app arguments names) → Serves a w None → CanAdd a.graph (next_path w) (inputs arguments)
+pub can-add : (a : AgendaView) (w : Known) (app : ℕ) (arguments : List Value) (names : List Text) → Inv w → MainAsks w (request.Call app arguments names) → HasTasks a w None → CanAdd a.graph (next_path w) (inputs arguments)
 unfolding inputs
 can-add a w app arguments names inv asks serves = record {
   new = next_absent w a.graph.paths inv serves.ties.paths_are;
@@ -91,12 +92,12 @@ can-add a w app arguments names inv asks serves = record {
   distinct = distinct-apart _;
 }
 
-holds_now : (a : AgendaView) (w : Known) (lacking : Option ℕ) → Inv w → IsExact a.graph.callbacks → Serves a w lacking → Holds a.graph w.calls w.lives lacking
+holds_now : (a : AgendaView) (w : Known) (lacking : Option ℕ) → Inv w → IsExact a.graph.callbacks → HasTasks a w lacking → Holds a.graph w.calls w.lives lacking
 holds_now a w lacking inv exact serves = holds-now a.graph w.calls w.lives lacking serves.ties exact (inputs-long w inv) (awaited-long w inv)
 
-pub serves-called : (a b : AgendaView) (w : Known) (app : ℕ) (arguments : List Value) (names : List Text) → Inv w → IsExact a.graph.callbacks → MainAsks w (request.Call app arguments names) → Serves a w None
+pub serves-called : (a b : AgendaView) (w : Known) (app : ℕ) (arguments : List Value) (names : List Text) → Inv w → IsExact a.graph.callbacks → MainAsks w (request.Call app arguments names) → HasTasks a w None
     → b.graph ≡ with_task (next_path w) (inputs arguments) a.graph → b.launched ≡ a.launched → b.over ≡ a.over → b.spare ≡ a.spare → b.unsettled ≡ a.unsettled + 1
-    → Serves b (called w (call_of w app arguments names)) None
+    → HasTasks b (called w (call_of w app arguments names)) None
 serves-called a b w app arguments names inv exact asks serves graph launched over spare unsettled =
     let c : Call = call_of w app arguments names in
     let v : Known = called w c in
@@ -119,7 +120,7 @@ all_calls : (w : Known) (cs : List Call) → (all_submitted w cs).calls ≡ w.ca
 all_calls w [] = sym (append-nil w.calls)
 all_calls w (c ∷ cs) = all_calls (submitted w c) cs ∙ append_assoc w.calls (c ∷ []) cs
 
-module _ (a : AgendaView) (w : Known) (k : ℕ) (app : AppDef) (values : List Value) (inv : Inv w) (going : has_ended w ≡ false) (callback : IsCallback w k) (begins : begin_at w k ≡ Joins app values) (serves : Serves a w (Some k)) where
+module _ (a : AgendaView) (w : Known) (k : ℕ) (app : AppDef) (values : List Value) (inv : Inv w) (going : has_ended w ≡ false) (callback : IsCallback w k) (begins : begin_at w k ≡ Joins app values) (serves : HasTasks a w (Some k)) where
   abbrev ran : Dry
   ran = join_dry (apps_in w) (path_at w k) app values
 
@@ -204,7 +205,7 @@ module _ (a : AgendaView) (w : Known) (k : ℕ) (app : AppDef) (values : List Va
     unsettled_joined = let all = unsettled-all (joining w k ran) ran.1 in let same = unsettled-put w.lives k ran_life (sym (ap is_settled callback.pending)) in omega (arith, all, same)
 
     serves_joined : (b : AgendaView) → b.graph ≡ with_join_run (path_at w k) (join_dry (apps_in w) (path_at w k) app values) a.graph → b.launched ≡ a.launched → b.over ≡ a.over → b.spare ≡ a.spare
-        → b.unsettled ≡ a.unsettled + length (join_dry (apps_in w) (path_at w k) app values).1 → Serves b (joined w k (join_dry (apps_in w) (path_at w k) app values)) None
+        → b.unsettled ≡ a.unsettled + length (join_dry (apps_in w) (path_at w k) app values).1 → HasTasks b (joined w k (join_dry (apps_in w) (path_at w k) app values)) None
     serves_joined b graph launched over spare unsettled =
         let room = serves.room in
         let count = serves.unsettled in
@@ -219,11 +220,11 @@ module _ (a : AgendaView) (w : Known) (k : ℕ) (app : AppDef) (values : List Va
         }
 
 -- the paths of its calls are new, each waits for earlier ones, and it returned some of them
-pub can-store : (a : AgendaView) (w : Known) (k : ℕ) (values : List Value) → Inv w → has_ended w ≡ false → IsCallback w k → Serves a w (Some k) → CanStoreJoinOf a.graph w k values
+pub can-store : (a : AgendaView) (w : Known) (k : ℕ) (values : List Value) → Inv w → has_ended w ≡ false → IsCallback w k → HasTasks a w (Some k) → CanStoreJoinOf a.graph w k values
 can-store a w k values inv going callback serves app begins = can_store a w k app values inv going callback begins serves
 
-pub serves-joined : (a b : AgendaView) (w : Known) (k : ℕ) (app : AppDef) (values : List Value) → Inv w → IsExact a.graph.callbacks → has_ended w ≡ false → IsCallback w k → begin_at w k ≡ Joins app values → Serves a w (Some k)
+pub serves-joined : (a b : AgendaView) (w : Known) (k : ℕ) (app : AppDef) (values : List Value) → Inv w → IsExact a.graph.callbacks → has_ended w ≡ false → IsCallback w k → begin_at w k ≡ Joins app values → HasTasks a w (Some k)
     → b.graph ≡ with_join_run (path_at w k) (join_dry (apps_in w) (path_at w k) app values) a.graph → b.launched ≡ a.launched → b.over ≡ a.over → b.spare ≡ a.spare
     → b.unsettled ≡ a.unsettled + length (join_dry (apps_in w) (path_at w k) app values).1
-    → Serves b (joined w k (join_dry (apps_in w) (path_at w k) app values)) None
+    → HasTasks b (joined w k (join_dry (apps_in w) (path_at w k) app values)) None
 serves-joined a b w k app values inv exact going callback begins serves graph launched over spare unsettled = serves_joined a w k app values inv going callback begins serves exact b graph launched over spare unsettled

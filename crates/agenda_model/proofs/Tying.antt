@@ -1,5 +1,5 @@
 -- What joins a graph to the tasks, through a write to one task.
-use Rattle.std.proofs.Common.{◌≡◌, ◌≢◌, ◌⊎◌, inl, inr, ℕ, zero, suc, ◌+◌, ◌<◌, ◌≤◌, Bool, true, false, not, List, [], ◌∷◌, ◌++◌, length, map, get_or, set, take, Option, Some, None, slice_get, refl, sym, ◌∙◌, ap, subst, arith, length-append}
+use Rattle.std.proofs.Common.{◌≡◌, ◌≢◌, inl, inr, ℕ, zero, suc, ◌<◌, ◌≤◌, true, false, not, List, [], ◌∷◌, ◌++◌, length, map, get_or, set, take, Option, Some, None, slice_get, refl, sym, ◌∙◌, ap, subst, arith, length-append}
 use Rattle.std.proofs.lemmas.Bool.{cases_eq}
 use Rattle.std.proofs.lemmas.List.{length-set, length-map, get_or-set_same, get_or-set_other, get_or-map}
 use Rattle.std.proofs.lemmas.Option.{slice_get_within, slice_get-get_or, get_or_from_slice_get}
@@ -15,7 +15,7 @@ use Rattle.dependency_graph.specs.declared.callback.CallbackKind.{CallbackKind}
 use Rattle.dependency_graph.specs.declared.callback.CallbackKind.TheVariants as kind
 use Rattle.dependency_graph.specs.declared.monitor.Settlement.{Settlement}
 use Rattle.dependency_graph.specs.CallbackViews.{CallbackView}
-use Rattle.dependency_graph.specs.Callbacks.{Callbacks, is_open, state_in, has_number, made_ready_by, with_state}
+use Rattle.dependency_graph.specs.Callbacks.{is_open, state_in, has_number, made_ready_by, with_state}
 use Rattle.dependency_graph.specs.Graphs.{Graph, IsOpenTask, with_settlement, with_state_of}
 use Rattle.dependency_graph.specs.Monitors.{tell}
 use Rattle.dependency_graph.specs.OutcomeStates.{state_of}
@@ -26,7 +26,7 @@ use Rattle.call_rules.specs.Calls.{Call}
 use Rattle.history_laws.specs.Tables.{status_of}
 use Rattle.kernel_model.specs.Known.{Life, no_call, no_life}
 use Rattle.kernel_model.proofs.Places.{Distinct}
-use Rattle.agenda_model.specs.Agendas.{HasStatus, IsLeft, IsCurrent, IsCurrentAs, Waits, IsStored, Lacks, Ties}
+use Rattle.agenda_model.specs.Agendas.{IsLeft, IsCurrentAs, Waits, Lacks, Ties}
 use Rattle.agenda_model.proofs.Queues.{status-here, status-other}
 
 -- ---- the place of a task

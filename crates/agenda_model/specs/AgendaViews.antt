@@ -8,7 +8,9 @@ pub record AgendaView : Type 0 where
   pub launched : List ℕ
   -- the tasks whose attempts are over, in the order of their ends
   pub over : List ℕ
-  -- how many more places for ends are kept
+  -- how many of the first of them need no storing
+  pub kept : ℕ
+  -- how many more places for ends there are
   pub spare : ℕ
   -- how many tasks aren't settled
   pub unsettled : ℕ

@@ -1,7 +1,9 @@
 -- What joins an agenda to the tasks of a run.
-use Rattle.std.specs.Prelude.{◌≡◌, ℕ, ◌+◌, ◌<◌, ◌≤◌, Bool, true, false, not, if◌then◌else◌, List, [], ◌∷◌, length, map, take, Option, Some, None, slice_get, Result}
+use Rattle.std.specs.Prelude.{◌≡◌, ℕ, ◌+◌, ◌<◌, ◌≤◌, true, false, not, if◌then◌else◌, List, [], ◌∷◌, length, map, take, Option, Some, None, slice_get, Result}
 use Rattle.std.proofs.Common.{get_or}
 use Rattle.flow_base.specs.declared.outcome.Exception.{Exception}
+use Rattle.flow_base.specs.declared.outcome.Outcome.{Outcome}
+use Rattle.script_tree.specs.declared.tree.AppDef.{AppDef}
 use Rattle.task_record.specs.declared.status.Status.{Status}
 use Rattle.task_record.specs.declared.status.Status.TheVariants as status
 use Rattle.task_record.specs.States.{is_settled}
@@ -14,7 +16,8 @@ use Rattle.flow_meaning.specs.Inputs.{Path, inputs, distinct}
 use Rattle.flow_meaning.specs.Meaning.{Done}
 use Rattle.call_rules.specs.Calls.{Call, awaited}
 use Rattle.kernel_model.specs.Acts.{retold}
-use Rattle.kernel_model.specs.Known.{Known, Life, no_call, no_life}
+use Rattle.memo_table.specs.Table.{MemoView}
+use Rattle.kernel_model.specs.Known.{Known, Life, no_call, no_life, known_in, key_in, is_kept, apps_in}
 use Rattle.agenda_model.specs.AgendaViews.{AgendaView}
 
 -- ---- queues
@@ -117,9 +120,21 @@ pub record ServesTasks (a : AgendaView) (cs : List Call) (lives : List Life) (la
   pub room : running_in lives ≤ a.spare
   pub unsettled : a.unsettled ≡ unsettled_in lives
 
+-- ---- what is to be stored
+
+-- the task needs no storing: by how its attempt ended, by its key, or since that is stored
+abbrev pub NeedsNoStore : List AppDef → MemoView → List Call → List Life → ℕ → Type 0
+NeedsNoStore apps memo cs lives k = (outcome : Outcome) → (get_or lives k no_life).end ≡ Some outcome → is_kept memo (key_in apps (known_in cs lives) (get_or cs k no_call)) outcome ≡ true
+
+-- so it is with the first tasks of the queue whose attempts are over, as many as are counted
+pub record FrontIsKept (a : AgendaView) (apps : List AppDef) (memo : MemoView) (cs : List Call) (lives : List Life) : Type 0 where
+  pub within : a.kept ≤ length a.over
+  pub kept : (i k : ℕ) → i < a.kept → slice_get a.over i ≡ Some k → NeedsNoStore apps memo cs lives k
+
 -- the agenda is that of what is known, but for a task that lacks its callback
-abbrev pub Serves : AgendaView → Known → Option ℕ → Type 0
-Serves a w lacking = ServesTasks a w.calls w.lives lacking
+pub record Serves (a : AgendaView) (w : Known) (lacking : Option ℕ) : Type 0 where
+  pub tasks : ServesTasks a w.calls w.lives lacking
+  pub front : FrontIsKept a (apps_in w) w.memo w.calls w.lives
 
 -- what is known, with what the monitors were told
 abbrev pub seen : AgendaView → Known → Known

@@ -10,8 +10,9 @@ use Rattle.history_laws.specs.declared.table.Expected.{Expected}
 use Rattle.history_laws.specs.declared.table.Retries.{Retries}
 use Rattle.history_laws.specs.declared.table.Table.{Table}
 use Rattle.call_rules.specs.Calls.{child}
-use Rattle.history_laws.specs.Tables.{task_at, calls_in, waits_before}
-use Rattle.history_laws.specs.Reads.{History, is_submitted, has_joined, due, submits, settled, launches, Stage, Unlaunched, Waiting, Running, Over, stage, last_try, value_word, costs, has_end}
+use Rattle.memo_table.specs.Keys.{KeyView}
+use Rattle.history_laws.specs.Tables.{task_at, table_key, calls_in, waits_before}
+use Rattle.history_laws.specs.Reads.{History, is_submitted, has_joined, due, submits, settled, launches, Stage, Unlaunched, Waiting, Running, Over, stage, last_try, value_word, costs, has_hit, has_value, stores, has_end}
 
 -- all of these paths have settled
 abbrev pub AllSettled : List Path → History → Type 0
@@ -38,13 +39,20 @@ pub record SubmitStands (z : Table) (b : History) (p : Path) (app : Text) : Type
   pub same_app : option_map (λ t. Expected.app t) (task_at z p) ≡ Some app
   pub waited : AllSettled (waits_before (submits b) z.acts) b
 
+-- The state in which a task settles whose outcome has this one: another where it took its value from the memo, and
+-- none where it took a value and has none.
+abbrev pub state_with : Bool → Status → Option Status
+state_with false s = Some s
+state_with true status.ExecDone = Some status.MemoDone
+state_with true _ = None
+
 -- A submitted task is settled once, in the state of its outcome, after all of its inputs.
 pub record SettledStands (z : Table) (b : History) (p : Path) (s : Status) : Type 0 where
   pub task : Expected
   pub is : task_at z p ≡ Some task
   pub submitted : is_submitted p b ≡ true
   pub once : settled p b ≡ None
-  pub state : s ≡ task.status
+  pub state : state_with (has_hit p b) task.status ≡ Some s
   pub inputs : AllSettled task.inputs b
   -- a join, after its body ran and all that it returned has settled
   pub joined : task.joins ≡ true → (has_joined p b ≡ true) × AllSettled task.awaits b
@@ -92,7 +100,12 @@ pub record SettlingLaw (z : Table) (b : History) (e : Entry) : Type 0 where
 
 -- ---- launches
 
--- A submitted, unsettled task that gets its outcome by an attempt is launched once its inputs have values.
+-- the key is stored
+abbrev pub is_stored : Table → History → KeyView → Bool
+is_stored z b key = stores (table_key z) key b
+
+-- A submitted, unsettled task that gets its outcome by an attempt is launched once its inputs have values. If its app
+-- is cached, then only where its key isn't stored, and it took no value from the memo.
 pub record LaunchStands (z : Table) (b : History) (p : Path) : Type 0 where
   pub task : Expected
   pub is : task_at z p ≡ Some task
@@ -100,6 +113,8 @@ pub record LaunchStands (z : Table) (b : History) (p : Path) : Type 0 where
   pub unsettled : settled p b ≡ None
   pub inputs : AllValued task.inputs b
   pub runs : task.runs ≡ true
+  pub fresh : (key : KeyView) → task.key ≡ Some key → is_stored z b key ≡ false
+  pub unhit : has_hit p b ≡ false
 
 -- The body of a submitted, unsettled join runs, once, as soon as its inputs have values.
 pub record JoinRunStands (z : Table) (b : History) (p : Path) : Type 0 where
@@ -111,18 +126,45 @@ pub record JoinRunStands (z : Table) (b : History) (p : Path) : Type 0 where
   pub inputs : AllValued task.inputs b
   pub joins : task.joins ≡ true
 
+-- A submitted, unsettled task of a cached app takes its value from the memo, once, where its inputs have values and its
+-- key is stored.
+pub record HitStands (z : Table) (b : History) (p : Path) : Type 0 where
+  pub task : Expected
+  pub is : task_at z p ≡ Some task
+  pub submitted : is_submitted p b ≡ true
+  pub unsettled : settled p b ≡ None
+  pub once : has_hit p b ≡ false
+  pub inputs : AllValued task.inputs b
+  pub key : KeyView
+  pub cached : task.key ≡ Some key
+  pub stored : is_stored z b key ≡ true
+
+-- The value of an attempt is stored by the key of its task, where that isn't stored.
+pub record StoredStands (z : Table) (b : History) (p : Path) : Type 0 where
+  pub task : Expected
+  pub is : task_at z p ≡ Some task
+  pub valued : has_value p b ≡ true
+  pub key : KeyView
+  pub cached : task.key ≡ Some key
+  pub fresh : is_stored z b key ≡ false
+
+-- A task of a cached app settles with the value of its attempt only where its key is stored.
+abbrev pub SettlesStored : Table → History → Path → Status → Type 0
+SettlesStored z b p s = s ≡ status.ExecDone → (key : KeyView) → table_key z p ≡ Some key → is_stored z b key ≡ true
+
 abbrev pub LaunchLaw : Table → History → Entry → Type 0
 LaunchLaw z b (entry.Launch p n) = LaunchStands z b p
 LaunchLaw z b (entry.JoinRun p) = JoinRunStands z b p
--- no value is stored, or taken from an earlier call
-LaunchLaw z b (entry.MemoHit p) = ⊥
-LaunchLaw z b (entry.Stored p) = ⊥
+LaunchLaw z b (entry.MemoHit p) = HitStands z b p
+LaunchLaw z b (entry.Stored p) = StoredStands z b p
+LaunchLaw z b (entry.Settled p s) = SettlesStored z b p s
+-- no run writes lines
 LaunchLaw z b (entry.Checkpoint count) = ⊥
 LaunchLaw z b _ = Unit {0}
 
 -- ---- attempts
 
--- a further attempt may follow: the last one ended without a value, and the costs are within the limit
+-- a further attempt may follow, or a value from the memo: the last one ended without a value, and the costs are within the limit
 abbrev pub MayFollow : ℕ → ℕ → Stage → Type 0
 MayFollow limit sum Unlaunched = Unit {0}
 MayFollow limit sum Waiting = ⊥
@@ -160,6 +202,7 @@ AttemptsSettle r (Some task) b p s = task.runs ≡ true → MaySettle r.limit (c
 
 abbrev pub AttemptLaw : Retries → Table → History → Entry → Type 0
 AttemptLaw r z b (entry.Launch p n) = AttemptFollows r b p n
+AttemptLaw r z b (entry.MemoHit p) = MayFollow r.limit (costs r p b) (last_try p b)
 AttemptLaw r z b (entry.Ended p n manager kind) = AttemptEnds z b p n kind
 AttemptLaw r z b (entry.Settled p s) = AttemptsSettle r (task_at z p) b p s
 AttemptLaw r z b _ = Unit {0}

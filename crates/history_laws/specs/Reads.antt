@@ -1,11 +1,12 @@
 -- What is read from a history. Definitions have the newest entry of a history first, so that the entries
 -- before one are the rest of the list.
-use Rattle.std.specs.Prelude.{ℕ, suc, ◌+◌, Bool, true, false, if◌then◌else◌, List, [], ◌∷◌, Option, Some, None, bytes_eq, codes, reverse}
+use Rattle.std.specs.Prelude.{ℕ, suc, ◌+◌, Bool, true, false, ◌&&◌, if◌then◌else◌, List, [], ◌∷◌, Option, Some, None, bytes_eq, codes, reverse}
 use Rattle.task_record.specs.declared.status.Status.{Status}
 use Rattle.event_log.specs.declared.entry.Entry.{Entry}
 use Rattle.event_log.specs.declared.entry.Entry.TheVariants as entry
 use Rattle.flow_meaning.specs.Inputs.{Path}
 use Rattle.flow_meaning.specs.Operators.{Text}
+use Rattle.memo_table.specs.Keys.{KeyView, same_key}
 use Rattle.history_laws.specs.declared.table.Retries.{Retries}
 use Rattle.history_laws.specs.declared.table.RetryCost.{RetryCost}
 
@@ -112,6 +113,30 @@ abbrev pub costs : Retries → Path → History → ℕ
 costs r p [] = 0
 costs r p (entry.Ended q n manager kind ∷ b) = if bytes_eq p q then costs r p b + cost r kind else costs r p b
 costs r p (e ∷ b) = costs r p b
+
+-- ---- the memo
+
+-- the task took its value from the memo
+abbrev pub has_hit : Path → History → Bool
+has_hit p [] = false
+has_hit p (entry.MemoHit q ∷ b) = if bytes_eq p q then true else has_hit p b
+has_hit p (e ∷ b) = has_hit p b
+
+-- an attempt of the task ended with a value
+abbrev pub has_value : Path → History → Bool
+has_value p [] = false
+has_value p (entry.Ended q n manager kind ∷ b) = if bytes_eq p q && bytes_eq kind value_word then true else has_value p b
+has_value p (e ∷ b) = has_value p b
+
+abbrev pub is_key : KeyView → Option KeyView → Bool
+is_key key None = false
+is_key key (Some other) = same_key key other
+
+-- the key is that of a task whose value was stored, where tasks have these keys
+abbrev pub stores : (Path → Option KeyView) → KeyView → History → Bool
+stores keys key [] = false
+stores keys key (entry.Stored p ∷ b) = if is_key key (keys p) then true else stores keys key b
+stores keys key (e ∷ b) = stores keys key b
 
 -- ---- the whole
 

@@ -6,7 +6,9 @@ use Rattle.flow_base.specs.declared.outcome.Exception.TheVariants as x
 use Rattle.flow_base.specs.declared.outcome.Outcome.{Outcome}
 use Rattle.flow_base.specs.declared.outcome.Outcome.TheVariants as o
 use Rattle.flow_base.specs.Exceptions.{exception_name}
+use Rattle.flow_base.specs.declared.value.Value.{Value}
 use Rattle.script_tree.specs.declared.tree.AppDef.{AppDef}
+use Rattle.script_tree.specs.Canonical as canonical
 use Rattle.script_tree.specs.Grammar.{Tree}
 use Rattle.task_record.specs.declared.status.Status.{Status}
 use Rattle.task_record.specs.declared.status.Status.TheVariants as status
@@ -14,6 +16,7 @@ use Rattle.flow_meaning.specs.Inputs.{Path}
 use Rattle.flow_meaning.specs.Operators.{Text}
 use Rattle.flow_meaning.specs.Sequential.{Task, Tasks, apply, MainAct, Calls, Waits, Sequential, seq}
 use Rattle.flow_meaning.specs.Evaluations.{name_in}
+use Rattle.memo_table.specs.Keys.{KeyView}
 use Rattle.call_rules.specs.Calls.{Begin, Attempts, Joins, begin, calls_below, awaits, call_in}
 use Rattle.history_laws.specs.Reads.{value_word}
 use Rattle.history_laws.specs.declared.table.MainEvent.{MainEvent}
@@ -29,6 +32,14 @@ task_in (t ∷ ts) p = if bytes_eq t.path p then Some t else task_in ts p
 
 abbrev pub task_at : Table → Path → Option Expected
 task_at z p = task_in z.tasks p
+
+abbrev pub row_key : Option Expected → Option KeyView
+row_key None = None
+row_key (Some t) = t.key
+
+-- the key of the task of this path
+abbrev pub table_key : Table → Path → Option KeyView
+table_key z p = row_key (task_at z p)
 
 -- how many calls main makes
 abbrev pub calls_in : List MainEvent → ℕ
@@ -50,7 +61,7 @@ abbrev pub kind_of : Ended → Text
 kind_of (ended.Value value files) = value_word
 kind_of (ended.Raised exception) = exception_name exception
 
--- the state in which a task settles
+-- the state in which a task settles, unless the memo has its value
 abbrev pub status_of : Outcome → Status
 status_of (o.Value value files) = status.ExecDone
 status_of (o.Failed (x.DependencyError paths)) = status.DepFail
@@ -71,6 +82,15 @@ abbrev pub kind_with : List Text → Begin → Text
 kind_with names (Attempts app values) = kind_of (apply app values names)
 kind_with names _ = []
 
+-- the key of a call of this app with these values, where the app is cached
+abbrev pub key_of : AppDef → List Value → List Text → Option KeyView
+key_of app values names = if app.cached then Some (record { app = canonical.app app; arguments = values; names = names }) else None
+
+-- the key of a call that begins so
+abbrev pub key_with : List Text → Begin → Option KeyView
+key_with names (Attempts app values) = key_of app values names
+key_with names _ = None
+
 abbrev pub expected : List AppDef → Tasks → Task → Expected
 expected apps ts t = record {
   path = t.path;
@@ -81,6 +101,7 @@ expected apps ts t = record {
   calls = length (calls_below apps ts (call_in t));
   awaits = awaits apps ts (call_in t);
   kind = kind_with t.names (begin apps ts (call_in t));
+  key = key_with t.names (begin apps ts (call_in t));
   status = status_of t.outcome;
 }
 

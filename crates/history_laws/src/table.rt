@@ -1,6 +1,7 @@
 //! What the laws take from the sequential evaluation of a script, and from the settings.
 
 use flow_base::{Path, Paths, Text};
+use memo_table::Key;
 use sqlite_items::Items as ListOf;
 use task_record::Status;
 
@@ -23,7 +24,9 @@ pub struct Expected {
     /// How its body ends, where it gets its outcome by an attempt: the word `value`, or the name of its
     /// exception. Empty for every other task.
     pub kind: Text,
-    /// The state in which it settles.
+    /// The key of its call, where its app is cached and it gets its outcome by an attempt.
+    pub key: Option<Key>,
+    /// The state in which it settles, unless the memo has its value.
     pub status: Status,
 }
 

@@ -6,7 +6,8 @@ pub enum Law {
     /// Calls are submitted in their turn, tasks settle once, in the states of their outcomes, and
     /// nothing stands behind the end.
     Settling,
-    /// Tasks that get their outcomes by attempts are launched, once their inputs have values.
+    /// Tasks that get their outcomes by attempts are launched, once their inputs have values, or take their values
+    /// from the memo where their keys are stored; values of cached apps settle once they are stored.
     Launch,
     /// Attempts end as their bodies do, follow failed ones within the limit, and settle their tasks.
     Attempt,

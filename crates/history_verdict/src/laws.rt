@@ -3,17 +3,17 @@
 ghost use Rattle.std.specs.Prelude.{◌≡◌, ◌+◌, ◌↔◌, ◌∷◌, [], suc, true, IsTrue, Some, None, reverse, option_map};
 ghost use Rattle.history_laws.specs.declared.table.Expected.{Expected};
 ghost use Rattle.history_laws.specs.Tables.{task_at};
-ghost use Rattle.history_laws.specs.Laws.{AllSettled, SubmitStands, SettledStands, IsOver, IsFree, OwnStands, SettlingStands, SettlingLaw, LaunchStands, JoinRunStands, LaunchLaw, MayFollow, AttemptFollows, IsOut, AttemptEnds, MaySettle, AttemptsSettle, AttemptLaw, ManagerLaw, is_of_managers};
-ghost use Rattle.history_laws.specs.Reads.{is_submitted, settled, has_joined, launches, Waiting, Running, stage, last_try, costs};
+ghost use Rattle.history_laws.specs.Laws.{AllSettled, SubmitStands, state_with, SettledStands, IsOver, IsFree, OwnStands, SettlingStands, SettlingLaw, AllValued, LaunchStands, JoinRunStands, HitStands, StoredStands, SettlesStored, LaunchLaw, MayFollow, AttemptFollows, IsOut, AttemptEnds, MaySettle, AttemptsSettle, AttemptLaw, ManagerLaw, is_of_managers};
+ghost use Rattle.history_laws.specs.Reads.{is_submitted, settled, has_joined, launches, Waiting, Running, stage, last_try, costs, has_hit};
 ghost use Rattle.call_rules.specs.Calls.{child};
 ghost use Rattle.history_verdict.specs.Calls.{IsCall, IsNextChild};
 ghost use Rattle.history_verdict.specs.Rows.{AllOver};
 
 use crate::reads::{
-    Progress, Submitting, costs, due, has_end, has_joined, is_submitted, last_attempt, last_try,
-    launches, settled, submits,
+    Progress, Submitting, costs, due, has_end, has_hit, has_joined, has_value, is_submitted,
+    last_attempt, last_try, launches, settled, submits,
 };
-use crate::rows::{all_settled, all_valued, calls_at, calls_in, has_waited, task_at};
+use crate::rows::{all_settled, all_valued, calls_at, calls_in, has_waited, stored_key, task_at};
 use event_log::Entry;
 use flow_base::{Path, Text};
 use history_laws::{Expected, Retries, Table};
@@ -70,13 +70,31 @@ fn is_joined(task: &Expected, path: &Path, before: &[Entry]) -> bool
     !task.joins || (has_joined(path, before) && all_settled(task.awaits.as_slice(), before))
 }
 
+// The state in which a task settles whose outcome has this one: another where it took its value from the memo.
+fn state_with(hit: bool, status: Status) -> Option<Status>
+    ensures { result ≡ state_with hit status }
+{
+    match (hit, status) {
+        (false, _) => Some(status),
+        (true, Status::ExecDone) => Some(Status::MemoDone),
+        (true, _) => None,
+    }
+}
+
+// Whether the task settles in this state.
+fn settles_in(task: &Expected, path: &Path, before: &[Entry], status: Status) -> bool
+    ensures { IsTrue result ↔ (state_with (has_hit path.now (reverse before.now)) task.now.status ≡ Some status) }
+{
+    state_with(has_hit(path, before), task.status) == Some(status)
+}
+
 fn settled_stands(table: &Table, before: &[Entry], path: &Path, status: Status) -> bool
     ensures { IsTrue result ↔ SettledStands table.now (reverse before.now) path.now status }
 {
     match task_at(table, path) {
         Some(task) => {
             is_open(path, before)
-                && status == task.status
+                && settles_in(task, path, before, status)
                 && all_settled(task.inputs.as_slice(), before)
                 && is_joined(task, path, before)
         }
@@ -173,12 +191,22 @@ pub fn settling_law(table: &Table, before: &[Entry], entry: &Entry) -> bool
     !has_end(before) && settling_stands(table, before, entry)
 }
 
+// Whether the task is submitted and not settled, and its inputs have values.
+fn is_ready(task: &Expected, path: &Path, before: &[Entry]) -> bool
+    ensures { IsTrue result ↔ ((is_submitted path.now (reverse before.now) ≡ true) × (settled path.now (reverse before.now) ≡ None) × AllValued task.now.inputs (reverse before.now)) }
+{
+    is_open(path, before) && all_valued(task.inputs.as_slice(), before)
+}
+
 fn launch_stands(table: &Table, before: &[Entry], path: &Path) -> bool
     ensures { IsTrue result ↔ LaunchStands table.now (reverse before.now) path.now }
 {
     match task_at(table, path) {
         Some(task) => {
-            is_open(path, before) && all_valued(task.inputs.as_slice(), before) && task.runs
+            is_ready(task, path, before)
+                && task.runs
+                && stored_key(table, task, before) != Some(true)
+                && !has_hit(path, before)
         }
         None => false,
     }
@@ -188,13 +216,43 @@ fn join_run_stands(table: &Table, before: &[Entry], path: &Path) -> bool
     ensures { IsTrue result ↔ JoinRunStands table.now (reverse before.now) path.now }
 {
     match task_at(table, path) {
+        Some(task) => { is_ready(task, path, before) && !has_joined(path, before) && task.joins }
+        None => false,
+    }
+}
+
+fn hit_stands(table: &Table, before: &[Entry], path: &Path) -> bool
+    ensures { IsTrue result ↔ HitStands table.now (reverse before.now) path.now }
+{
+    match task_at(table, path) {
         Some(task) => {
-            is_open(path, before)
-                && !has_joined(path, before)
-                && all_valued(task.inputs.as_slice(), before)
-                && task.joins
+            is_ready(task, path, before)
+                && !has_hit(path, before)
+                && stored_key(table, task, before) == Some(true)
         }
         None => false,
+    }
+}
+
+fn stored_stands(table: &Table, before: &[Entry], path: &Path) -> bool
+    ensures { IsTrue result ↔ StoredStands table.now (reverse before.now) path.now }
+{
+    match task_at(table, path) {
+        Some(task) => { has_value(path, before) && stored_key(table, task, before) == Some(false) }
+        None => false,
+    }
+}
+
+// Whether the key of the task is stored, where it has one and settles with the value of its attempt.
+fn settles_stored(table: &Table, before: &[Entry], path: &Path, status: Status) -> bool
+    ensures { IsTrue result ↔ SettlesStored table.now (reverse before.now) path.now status }
+{
+    if status != Status::ExecDone {
+        return true;
+    }
+    match task_at(table, path) {
+        Some(task) => stored_key(table, task, before) != Some(false),
+        None => true,
     }
 }
 
@@ -205,7 +263,10 @@ pub fn launch_law(table: &Table, before: &[Entry], entry: &Entry) -> bool
     match entry {
         Entry::Launch { path, .. } => launch_stands(table, before, path),
         Entry::JoinRun { path } => join_run_stands(table, before, path),
-        Entry::MemoHit { .. } | Entry::Stored { .. } | Entry::Checkpoint { .. } => false,
+        Entry::MemoHit { path } => hit_stands(table, before, path),
+        Entry::Stored { path } => stored_stands(table, before, path),
+        Entry::Settled { path, status } => settles_stored(table, before, path, *status),
+        Entry::Checkpoint { .. } => false,
         _ => true,
     }
 }
@@ -288,6 +349,7 @@ pub fn attempt_law(retries: &Retries, table: &Table, before: &[Entry], entry: &E
 {
     match entry {
         Entry::Launch { path, attempt } => attempt_follows(retries, before, path, *attempt),
+        Entry::MemoHit { path } => may_follow(retries, before, path),
         Entry::Ended {
             path,
             attempt,

@@ -3,7 +3,7 @@
 ghost use Rattle.std.specs.Prelude.{◌≡◌, ℕ, ◌+◌, ◌-◌, ◌^◌, ◌<◌, ◌≤◌, ◌∷◌, min, length, reverse, bytes_eq, if◌then◌else◌, true};
 ghost use Rattle.history_verdict.specs.Progress.{progress_of};
 ghost use Rattle.history_verdict.specs.Calls.{due_of, calls_of};
-ghost use Rattle.history_laws.specs.Reads.{History, value_word, is_submitted, is_of_main, submits, settled, has_joined, due, launches, Over, stage, last_try, cost_in, cost, costs, has_end};
+ghost use Rattle.history_laws.specs.Reads.{History, value_word, is_submitted, is_of_main, submits, settled, has_joined, due, launches, Over, stage, last_try, cost_in, cost, costs, has_hit, has_value, has_end};
 
 use event_log::Entry;
 use flow_base::{Path, Text};
@@ -302,6 +302,50 @@ pub fn costs(retries: &Retries, path: &Path, before: &[Entry]) -> u64
         sum = costs_with(entry, retries, path, sum);
     }
     sum
+}
+
+fn is_hit(entry: &Entry, path: &Path) -> bool
+    ensures { (b : History) → has_hit path.now (entry.now ∷ b) ≡ (if result then true else has_hit path.now b) }
+{
+    match entry {
+        Entry::MemoHit { path: other } => same_path(path, other),
+        _ => false,
+    }
+}
+
+/// Whether the task took its value from the memo.
+pub fn has_hit(path: &Path, before: &[Entry]) -> bool
+    ensures { result ≡ has_hit path.now (reverse before.now) }
+{
+    let mut hit = false;
+    for entry in before {
+        hit = is_hit(entry, path) || hit;
+    }
+    hit
+}
+
+fn ends_with_value(entry: &Entry, path: &Path) -> bool
+    ensures { (b : History) → has_value path.now (entry.now ∷ b) ≡ (if result then true else has_value path.now b) }
+{
+    match entry {
+        Entry::Ended {
+            path: other,
+            ended,
+            ..
+        } => same_path(path, other) && is_value(ended),
+        _ => false,
+    }
+}
+
+/// Whether an attempt of the task ended with a value.
+pub fn has_value(path: &Path, before: &[Entry]) -> bool
+    ensures { result ≡ has_value path.now (reverse before.now) }
+{
+    let mut valued = false;
+    for entry in before {
+        valued = ends_with_value(entry, path) || valued;
+    }
+    valued
 }
 
 fn is_end(entry: &Entry) -> bool

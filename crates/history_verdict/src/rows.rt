@@ -1,13 +1,15 @@
 //! What is looked up in a table, and which of its tasks have settled.
 
-ghost use Rattle.std.specs.Prelude.{◌≡◌, ◌↔◌, ◌≤◌, IsTrue, length, reverse, option_copied};
-ghost use Rattle.history_laws.specs.Laws.{AllSettled, IsValued, AllValued, calls_at};
-ghost use Rattle.history_laws.specs.Tables.{task_in, task_at, calls_in, waits_before};
+ghost use Rattle.std.specs.Prelude.{◌≡◌, ◌↔◌, ◌≤◌, ◌∷◌, if◌then◌else◌, true, IsTrue, length, reverse, option_copied, option_map};
+ghost use Rattle.history_laws.specs.Laws.{AllSettled, IsValued, AllValued, calls_at, is_stored};
+ghost use Rattle.history_laws.specs.Reads.{History, is_key, stores};
+ghost use Rattle.history_laws.specs.Tables.{task_in, task_at, table_key, calls_in, waits_before};
 
 use crate::reads::{same_path, settled};
 use event_log::Entry;
 use flow_base::Path;
 use history_laws::{Expected, MainEvent, Table};
+use memo_table::Key;
 use task_record::Status;
 
 fn task_in<'a>(tasks: &'a [Expected], path: &Path) -> Option<&'a Expected>
@@ -102,4 +104,52 @@ pub fn has_waited(acts: &[MainEvent], calls: usize, before: &[Entry]) -> bool
         }
     }
     true
+}
+
+fn has_key(task: &Expected, key: &Key) -> bool
+    ensures { result ≡ is_key key.now task.now.key }
+{
+    match &task.key {
+        Some(other) => key == other,
+        None => false,
+    }
+}
+
+// Whether the task of this path has the key.
+fn is_key_at(table: &Table, path: &Path, key: &Key) -> bool
+    ensures { result ≡ is_key key.now (table_key table.now path.now) }
+{
+    match task_at(table, path) {
+        Some(task) => has_key(task, key),
+        None => false,
+    }
+}
+
+fn stores(entry: &Entry, table: &Table, key: &Key) -> bool
+    ensures { (b : History) → stores (table_key table.now) key.now (entry.now ∷ b) ≡ (if result then true else stores (table_key table.now) key.now b) }
+{
+    match entry {
+        Entry::Stored { path } => is_key_at(table, path, key),
+        _ => false,
+    }
+}
+
+fn is_stored(table: &Table, key: &Key, before: &[Entry]) -> bool
+    ensures { result ≡ is_stored table.now (reverse before.now) key.now }
+{
+    let mut stored = false;
+    for entry in before {
+        stored = stores(entry, table, key) || stored;
+    }
+    stored
+}
+
+/// Whether the key of the task is stored, where it has one.
+pub fn stored_key(table: &Table, task: &Expected, before: &[Entry]) -> Option<bool>
+    ensures { result ≡ option_map (λ key. is_stored table.now (reverse before.now) key) task.now.key }
+{
+    match &task.key {
+        Some(key) => Some(is_stored(table, key, before)),
+        None => None,
+    }
 }

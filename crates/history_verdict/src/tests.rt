@@ -2,10 +2,12 @@
 
 use crate::verdict::verdict;
 use event_log::{Entries, Entry};
-use flow_base::{Path, Paths, Text};
+use flow_base::{Items, Names, Path, Paths, Text, Value};
 use history_laws::{Breach, Expected, Law, MainEvent, Retries, RetryCost, Table};
+use memo_table::Key;
 use sqlite_items::Items as ListOf;
 use std::alloc::{AllocError, Global};
+use std::sync::Arc;
 use std::test::Fail;
 use task_record::Status;
 
@@ -26,9 +28,11 @@ type Task = &'static [u32];
 enum Line {
     Submit(Task, EntryKind),
     JoinRun(Task),
+    MemoHit(Task),
     Launch(Task, u32),
     Start(Task, u32, u32),
     Ended(Task, u32, u32, EntryKind),
+    Stored(Task),
     Settled(Task, Status),
     End,
 }
@@ -59,6 +63,9 @@ fn entry(alloc: Global, line: Line) -> Result<Entry, AllocError> {
         Line::JoinRun(task) => Ok(Entry::JoinRun {
             path: path(alloc, task)?,
         }),
+        Line::MemoHit(task) => Ok(Entry::MemoHit {
+            path: path(alloc, task)?,
+        }),
         Line::Launch(task, attempt) => Ok(Entry::Launch {
             path: path(alloc, task)?,
             attempt,
@@ -73,6 +80,9 @@ fn entry(alloc: Global, line: Line) -> Result<Entry, AllocError> {
             attempt,
             manager,
             ended: text(alloc, ended)?,
+        }),
+        Line::Stored(task) => Ok(Entry::Stored {
+            path: path(alloc, task)?,
         }),
         Line::Settled(task, status) => Ok(Entry::Settled {
             path: path(alloc, task)?,
@@ -96,6 +106,8 @@ enum Body {
     Skipped,
     // by attempts of the app `add`, which end so
     Runs(EntryKind),
+    // by attempts of the same app, which is cached, with this argument
+    Cached(EntryKind, i64),
     // by so many calls of the body of the app `both`, which returns the futures of these tasks
     Joins(u32, &'static [Task]),
 }
@@ -126,7 +138,7 @@ fn app(alloc: Global, body: Body) -> Result<Text, AllocError> {
 
 fn kind(alloc: Global, body: Body) -> Result<Text, AllocError> {
     match body {
-        Body::Runs(kind) => text(alloc, kind),
+        Body::Runs(kind) | Body::Cached(kind, _) => text(alloc, kind),
         _ => Text::of(alloc, ""),
     }
 }
@@ -148,16 +160,32 @@ fn awaits(alloc: Global, body: Body) -> Result<Paths, AllocError> {
     Ok(awaits)
 }
 
+// The key of the cached app with this argument.
+fn key_of(alloc: Global, argument: i64) -> Result<Key, AllocError> {
+    let app = Arc::new(alloc, text(alloc, EntryKind::Add)?)?;
+    let mut arguments = Items::new(alloc);
+    arguments.push(Value::Int(argument))?;
+    Key::new(alloc, app, arguments, Names::new(alloc))
+}
+
+fn key(alloc: Global, body: Body) -> Result<Option<Key>, AllocError> {
+    match body {
+        Body::Cached(_, argument) => Ok(Some(key_of(alloc, argument)?)),
+        _ => Ok(None),
+    }
+}
+
 fn expected(alloc: Global, row: Row) -> Result<Expected, AllocError> {
     Ok(Expected {
         path: path(alloc, row.task)?,
         app: app(alloc, row.body)?,
         inputs: inputs(alloc, row.input)?,
-        runs: matches!(row.body, Body::Runs(_)),
+        runs: matches!(row.body, Body::Runs(_) | Body::Cached(_, _)),
         joins: matches!(row.body, Body::Joins(_, _)),
         calls: calls(row.body),
         awaits: awaits(alloc, row.body)?,
         kind: kind(alloc, row.body)?,
+        key: key(alloc, row.body)?,
         status: row.status,
     })
 }
@@ -252,7 +280,7 @@ fn changed(
 // A change of a legal log, with the law that it breaks, and the entry that breaks it.
 type Change = (usize, &'static [Line], usize, Law, usize);
 
-const BROKEN: [Change; 32] = [
+const BROKEN: [Change; 34] = [
     // a second settling
     (
         6,
@@ -326,6 +354,16 @@ const BROKEN: [Change; 32] = [
     ),
     // after the settling
     (6, &[Line::Launch(&[1], 2)], 6, Law::Launch, 7),
+    // a value of an app that isn't cached is stored
+    (5, &[Line::Stored(&[1])], 5, Law::Launch, 6),
+    // a value from the memo for an app that isn't cached
+    (
+        2,
+        &[Line::MemoHit(&[1]), Line::Settled(&[1], Status::MemoDone)],
+        6,
+        Law::Launch,
+        3,
+    ),
     // the second attempt first
     (2, &[Line::Launch(&[1], 2)], 3, Law::Attempt, 3),
     // a second attempt while the first one waits
@@ -763,6 +801,271 @@ fn a_join_without_calls_runs_too(rt: HostRuntime) -> Result<(), Fail> {
     assert_eq!(rt; verdict(&table, &retries, &unchanged), None);
     for (first, lines, skipped, law, entry) in SHORT_JOIN_BROKEN {
         let entries = changed(alloc, &SHORT_JOIN_LEGAL, first, lines, skipped)?;
+        let found = verdict(&table, &retries, &entries);
+        assert_eq!(rt; found, Some(Breach { law, entry }));
+    }
+    Ok(())
+}
+
+// cached app add(a) { return a - 1; }
+// main { let x = call add(5); let y = call add(6); let z = call add(y); print result(z); }
+const MEMO_ROWS: [Row; 3] = [
+    Row {
+        task: &[1],
+        input: None,
+        body: Body::Cached(EntryKind::Value, 5),
+        status: Status::ExecDone,
+    },
+    Row {
+        task: &[2],
+        input: None,
+        body: Body::Cached(EntryKind::Value, 6),
+        status: Status::ExecDone,
+    },
+    Row {
+        task: &[3],
+        input: Some(&[2]),
+        body: Body::Cached(EntryKind::Value, 5),
+        status: Status::ExecDone,
+    },
+];
+
+const MEMO_MAIN: [Option<u32>; 4] = [None, None, None, Some(3)];
+
+const MEMO_LEGAL: [Line; 16] = [
+    Line::Submit(&[1], EntryKind::Add),
+    Line::Submit(&[2], EntryKind::Add),
+    Line::Launch(&[1], 1),
+    Line::Start(&[1], 1, 1),
+    Line::Ended(&[1], 1, 1, EntryKind::Value),
+    Line::Stored(&[1]),
+    Line::Settled(&[1], Status::ExecDone),
+    Line::Submit(&[3], EntryKind::Add),
+    Line::Launch(&[2], 1),
+    Line::Start(&[2], 1, 1),
+    Line::Ended(&[2], 1, 1, EntryKind::Value),
+    Line::Stored(&[2]),
+    Line::Settled(&[2], Status::ExecDone),
+    Line::MemoHit(&[3]),
+    Line::Settled(&[3], Status::MemoDone),
+    Line::End,
+];
+
+const MEMO_BROKEN: [Change; 17] = [
+    // the state of a value from the memo without one
+    (13, &[], 14, Law::Settling, 14),
+    // the same after an attempt
+    (
+        6,
+        &[Line::Settled(&[1], Status::MemoDone)],
+        7,
+        Law::Settling,
+        7,
+    ),
+    // the state of an attempt's value after one from the memo
+    (
+        14,
+        &[Line::Settled(&[3], Status::ExecDone)],
+        15,
+        Law::Settling,
+        15,
+    ),
+    // a launch though the key is stored
+    (13, &[Line::Launch(&[3], 1)], 13, Law::Launch, 14),
+    // a launch after a value from the memo
+    (14, &[Line::Launch(&[3], 1)], 14, Law::Launch, 15),
+    // a value from the memo though nothing is stored
+    (
+        2,
+        &[Line::MemoHit(&[1]), Line::Settled(&[1], Status::MemoDone)],
+        7,
+        Law::Launch,
+        3,
+    ),
+    // a value from the memo though only another key is stored
+    (
+        8,
+        &[Line::MemoHit(&[2]), Line::Settled(&[2], Status::MemoDone)],
+        13,
+        Law::Launch,
+        9,
+    ),
+    // a value from the memo before the submission
+    (7, &[Line::MemoHit(&[3])], 7, Law::Launch, 8),
+    // a value from the memo before the input has settled
+    (8, &[Line::MemoHit(&[3])], 8, Law::Launch, 9),
+    // a second value from the memo
+    (14, &[Line::MemoHit(&[3])], 14, Law::Launch, 15),
+    // a value from the memo after the settling
+    (15, &[Line::MemoHit(&[3])], 15, Law::Launch, 16),
+    // a value from the memo for no task
+    (7, &[Line::MemoHit(&[4])], 7, Law::Launch, 8),
+    // a value is stored a second time
+    (6, &[Line::Stored(&[1])], 6, Law::Launch, 7),
+    // no value yet to store
+    (4, &[Line::Stored(&[1])], 4, Law::Launch, 5),
+    // an exception is stored
+    (
+        4,
+        &[
+            Line::Ended(&[1], 1, 1, EntryKind::ZeroDivisionError),
+            Line::Stored(&[1]),
+        ],
+        6,
+        Law::Launch,
+        6,
+    ),
+    // a settling before the value is stored
+    (
+        5,
+        &[Line::Settled(&[1], Status::ExecDone), Line::Stored(&[1])],
+        7,
+        Law::Launch,
+        6,
+    ),
+    // a settling though only another key is stored
+    (11, &[], 12, Law::Launch, 12),
+];
+
+#[test]
+fn a_stored_value_is_taken_for_its_key(rt: HostRuntime) -> Result<(), Fail> {
+    let alloc = rt.alloc();
+    let table = table(alloc, &MEMO_ROWS, &MEMO_MAIN)?;
+    let retries = retries(alloc, None, 0)?;
+    let unchanged = changed(alloc, &MEMO_LEGAL, 0, &[], 0)?;
+    assert_eq!(rt; verdict(&table, &retries, &unchanged), None);
+    for (first, lines, skipped, law, entry) in MEMO_BROKEN {
+        let entries = changed(alloc, &MEMO_LEGAL, first, lines, skipped)?;
+        let found = verdict(&table, &retries, &entries);
+        assert_eq!(rt; found, Some(Breach { law, entry }));
+    }
+    Ok(())
+}
+
+// Two calls of one key, both launched before a value is stored.
+const TWIN_ROWS: [Row; 2] = [
+    Row {
+        task: &[1],
+        input: None,
+        body: Body::Cached(EntryKind::Value, 5),
+        status: Status::ExecDone,
+    },
+    Row {
+        task: &[2],
+        input: None,
+        body: Body::Cached(EntryKind::Value, 5),
+        status: Status::ExecDone,
+    },
+];
+
+const TWIN_LEGAL: [Line; 12] = [
+    Line::Submit(&[1], EntryKind::Add),
+    Line::Submit(&[2], EntryKind::Add),
+    Line::Launch(&[1], 1),
+    Line::Launch(&[2], 1),
+    Line::Start(&[1], 1, 1),
+    Line::Start(&[2], 1, 1),
+    Line::Ended(&[1], 1, 1, EntryKind::Value),
+    Line::Stored(&[1]),
+    Line::Settled(&[1], Status::ExecDone),
+    Line::Ended(&[2], 1, 1, EntryKind::Value),
+    Line::Settled(&[2], Status::ExecDone),
+    Line::End,
+];
+
+const TWIN_BROKEN: [Change; 4] = [
+    // both values are stored
+    (10, &[Line::Stored(&[2])], 10, Law::Launch, 11),
+    // neither value is stored
+    (7, &[], 8, Law::Launch, 8),
+    // a value from the memo while the attempt runs
+    (
+        9,
+        &[Line::MemoHit(&[2]), Line::Settled(&[2], Status::MemoDone)],
+        11,
+        Law::Attempt,
+        10,
+    ),
+    // a value from the memo after the attempt's value
+    (
+        10,
+        &[Line::MemoHit(&[2]), Line::Settled(&[2], Status::MemoDone)],
+        11,
+        Law::Attempt,
+        11,
+    ),
+];
+
+#[test]
+fn one_of_two_attempts_of_a_key_stores_its_value(rt: HostRuntime) -> Result<(), Fail> {
+    let alloc = rt.alloc();
+    let table = table(alloc, &TWIN_ROWS, &MAIN)?;
+    let retries = retries(alloc, None, 0)?;
+    let unchanged = changed(alloc, &TWIN_LEGAL, 0, &[], 0)?;
+    assert_eq!(rt; verdict(&table, &retries, &unchanged), None);
+    for (first, lines, skipped, law, entry) in TWIN_BROKEN {
+        let entries = changed(alloc, &TWIN_LEGAL, first, lines, skipped)?;
+        let found = verdict(&table, &retries, &entries);
+        assert_eq!(rt; found, Some(Breach { law, entry }));
+    }
+    Ok(())
+}
+
+// The second call has the key of the first one, and ends with an exception all the same.
+const RAISING_ROWS: [Row; 2] = [
+    Row {
+        task: &[1],
+        input: None,
+        body: Body::Cached(EntryKind::Value, 5),
+        status: Status::ExecDone,
+    },
+    Row {
+        task: &[2],
+        input: None,
+        body: Body::Cached(EntryKind::ZeroDivisionError, 5),
+        status: Status::Failed,
+    },
+];
+
+const RAISING: [Line; 12] = [
+    Line::Submit(&[1], EntryKind::Add),
+    Line::Submit(&[2], EntryKind::Add),
+    Line::Launch(&[1], 1),
+    Line::Launch(&[2], 1),
+    Line::Start(&[1], 1, 1),
+    Line::Start(&[2], 1, 1),
+    Line::Ended(&[1], 1, 1, EntryKind::Value),
+    Line::Stored(&[1]),
+    Line::Settled(&[1], Status::ExecDone),
+    Line::Ended(&[2], 1, 1, EntryKind::ZeroDivisionError),
+    Line::Settled(&[2], Status::Failed),
+    Line::End,
+];
+
+const RAISING_BROKEN: [Change; 3] = [
+    // a failure after a value from the memo
+    (10, &[Line::MemoHit(&[2])], 10, Law::Settling, 12),
+    // a value from the memo for a task that has none
+    (
+        10,
+        &[Line::MemoHit(&[2]), Line::Settled(&[2], Status::MemoDone)],
+        11,
+        Law::Settling,
+        12,
+    ),
+    // an exception is stored by a stored key
+    (10, &[Line::Stored(&[2])], 10, Law::Launch, 11),
+];
+
+#[test]
+fn a_task_without_a_value_takes_none_from_the_memo(rt: HostRuntime) -> Result<(), Fail> {
+    let alloc = rt.alloc();
+    let table = table(alloc, &RAISING_ROWS, &MAIN)?;
+    let retries = retries(alloc, None, 0)?;
+    let unchanged = changed(alloc, &RAISING, 0, &[], 0)?;
+    assert_eq!(rt; verdict(&table, &retries, &unchanged), None);
+    for (first, lines, skipped, law, entry) in RAISING_BROKEN {
+        let entries = changed(alloc, &RAISING, first, lines, skipped)?;
         let found = verdict(&table, &retries, &entries);
         assert_eq!(rt; found, Some(Breach { law, entry }));
     }

@@ -12,6 +12,7 @@ use Rattle.dependency_graph.specs.declared.callback.Callback.TheVariants.{Launch
 use Rattle.dependency_graph.specs.Callbacks.{IsExact, IsReadyCallback, has_number, next_of}
 use Rattle.dependency_graph.specs.Graphs.{Graph, CanAdd, IsOpenTask, with_next, with_settlement, with_task}
 use Rattle.dependency_graph.specs.Monitors.{tell, ToldFirst}
+use Rattle.history_laws.specs.Tables.{status_of}
 use Rattle.flow_meaning.specs.declared.walk.Request.TheVariants as request
 use Rattle.flow_meaning.specs.Inputs.{inputs}
 use Rattle.flow_meaning.specs.Operators.{Text}
@@ -21,10 +22,14 @@ use Rattle.stored_units.specs.Stored.{max_tasks}
 use Rattle.kernel_model.specs.declared.answers.Refusal.{Refusal}
 use Rattle.kernel_model.specs.declared.answers.Refusal.TheVariants.{NoMemory}
 use Rattle.kernel_model.specs.Acts.{submitted, all_submitted, joining, joined, launched, settled_as, settlement_of, retold, call_of, called}
-use Rattle.kernel_model.specs.Conditions.{CanLaunch, MainAsks}
+use Rattle.kernel_model.specs.Conditions.{CanLaunch, CanJoin, MainAsks}
+use Rattle.kernel_model.specs.Invariants.{Inv}
 use Rattle.kernel_model.specs.Known.{Known, path_at, status_at, begin_at, apps_in, known, next_path, has_ended}
 use Rattle.kernel_model.specs.Limits.{IsRefusedFor}
 use Rattle.kernel_model.specs.Turns.{IsCallback, IsJoinDone, CarriesOut, begins, ends, carried_out}
+use Rattle.kernel_model.proofs.KeepingTasks.{keep-launched}
+use Rattle.kernel_model.proofs.KeepingSubmits.{keep-joined}
+use Rattle.kernel_model.proofs.KeepingMain.{keep-called}
 use Rattle.kernel_model.proofs.Passing.{passed-none}
 use Rattle.kernel_model.proofs.Places.{status-within, length-pushed}
 use Rattle.kernel_model.proofs.Retelling.{callback-retold, join-retold}
@@ -37,6 +42,7 @@ use Rattle.kernel_core.specs.Views.{IsFact}
 use Rattle.kernel_core.proofs.Serving.{refused-as, undone-quiet, undone-by, undone-more, seen-settled}
 use Rattle.agenda_model.proofs.Carrying.{none-ready, given-launch, given-failure, given-join, with_graph, lacking-opened, unsettled-few, unsettled-some, serves-launched, serves-settled}
 use Rattle.agenda_model.proofs.Submitting.{can-store, serves-joined, can-add, serves-called}
+use Rattle.agenda_model.proofs.Fronts.{front-launched, front-settled, front-called, front-joined, front-graph}
 
 -- ---- a task whose callback was given
 
@@ -65,27 +71,34 @@ module _ (a0 a : AgendaView) (w : Known) (k : ℕ) (s : Status) (idle : IsIdle s
   idle_open = ap is_settled at ∙ idle.unsettled
 
   pub idle-opened : IsOpenTask a0.graph (path_at w k)
-  idle-opened = lacking-opened a0 w k fact.inv idle_inside idle_within idle_open
+  idle-opened = lacking-opened a0 w k fact.inv idle_inside.tasks idle_within idle_open
 
   pub idle-counts : 1 ≤ a0.unsettled
   idle-counts =
       let some = unsettled-some w k (let lives = fact.inv.holds.tracks.lives in let within = idle_within in omega (arith, lives, within)) idle_open in
-      let count = idle_inside.unsettled in
+      let count = idle_inside.tasks.unsettled in
       omega (arith, some, count)
 
-  pub idle-serves : (b : AgendaView) (v : Known) (outcome : Outcome) → v ≡ settled_as w k outcome → b.graph ≡ with_settlement (settlement_of w k outcome) a0.graph
-      → b.launched ≡ a0.launched → b.over ≡ a0.over → a0.spare ≤ b.spare → b.unsettled + 1 ≡ a0.unsettled → Serves b v None
-  idle-serves b v outcome after graph launches over spare unsettled =
+  pub idle-serves : (b : AgendaView) (v : Known) (outcome : Outcome) → Inv (settled_as w k outcome) → v ≡ settled_as w k outcome → b.graph ≡ with_settlement (settlement_of w k outcome) a0.graph
+      → b.launched ≡ a0.launched → b.over ≡ a0.over → b.kept ≡ a0.kept → a0.spare ≤ b.spare → b.unsettled + 1 ≡ a0.unsettled → Serves b v None
+  idle-serves b v outcome inv after graph launches over kept spare unsettled =
       subst (λ (u : Known). Serves b u None) (sym after)
-      (serves-settled a0 b w k outcome fact.inv idle_within idle_open (λ e. idle.unlaunched (sym at ∙ e)) (λ e. idle.stopped (sym at ∙ e)) (λ e. idle.unended (sym at ∙ e)) idle_inside graph launches over spare unsettled)
+      (record {
+        tasks = serves-settled a0 b w k outcome fact.inv idle_within idle_open (λ e. idle.unlaunched (sym at ∙ e)) (λ e. idle.stopped (sym at ∙ e)) (λ e. idle.unended (sym at ∙ e)) idle_inside.tasks graph launches over spare unsettled;
+        front = front-settled a0 b w k (status_of outcome) outcome (Some k) fact.inv inv idle_open (λ e. idle.unended (sym at ∙ e)) idle_inside.tasks over kept idle_inside.front;
+      })
 
 -- ---- launches
 
 pub launched-serves : (a0 a b : AgendaView) (w v : Known) (k : ℕ) → a0 ≡ a → IsFact w → CanLaunch w k → Serves a w (Some k) → v ≡ launched w k
-    → b.graph ≡ a0.graph → b.launched ≡ a0.launched ++ k ∷ [] → b.over ≡ a0.over → a0.spare ≤ b.spare → b.unsettled ≡ a0.unsettled → Serves b v None
-launched-serves a0 a b w v k is fact can serves after graph launches over spare unsettled =
+    → b.graph ≡ a0.graph → b.launched ≡ a0.launched ++ k ∷ [] → b.over ≡ a0.over → b.kept ≡ a0.kept → a0.spare ≤ b.spare → b.unsettled ≡ a0.unsettled → Serves b v None
+launched-serves a0 a b w v k is fact can serves after graph launches over kept spare unsettled =
+    let here : Serves a0 w (Some k) = subst (λ (x : AgendaView). Serves x w (Some k)) (sym is) serves in
     subst (λ (u : Known). Serves b u None) (sym after)
-    (serves-launched a0 b w k fact.inv can (subst (λ (x : AgendaView). Serves x w (Some k)) (sym is) serves) graph launches over spare unsettled)
+    (record {
+      tasks = serves-launched a0 b w k fact.inv can here.tasks graph launches over spare unsettled;
+      front = front-launched a0 b w k fact.inv (keep-launched w k fact.inv can) can here.tasks over kept here.front;
+    })
 
 -- ---- the ends of joins
 
@@ -108,7 +121,7 @@ ended-undone a0 a w v k h r is over same told cause =
 
 few : (a0 a : AgendaView) (w : Known) (lacking : Option ℕ) → a0 ≡ a → IsFact w → Serves a w lacking → a0.unsettled ≤ length w.calls
 few a0 a w lacking is fact serves =
-    let count = (subst (λ (x : AgendaView). Serves x w lacking) (sym is) serves).unsettled in
+    let count = (subst (λ (x : AgendaView). Serves x w lacking) (sym is) serves).tasks.unsettled in
     let below = unsettled-few w.lives in
     let lives = fact.inv.holds.tracks.lives in
     omega (arith, count, below, lives)
@@ -120,13 +133,17 @@ one-more a0 a w is fact serves =
     omega (arith, below, limit)
 
 pub call-added : (a0 a : AgendaView) (w : Known) (app : ℕ) (arguments : List Value) (names : List Text) → a0 ≡ a → IsFact w → MainAsks w (request.Call app arguments names) → Serves a w None → CanAdd a0.graph (next_path w) (inputs arguments)
-call-added a0 a w app arguments names is fact asks serves = can-add a0 w app arguments names fact.inv asks (subst (λ (x : AgendaView). Serves x w None) (sym is) serves)
+call-added a0 a w app arguments names is fact asks serves = can-add a0 w app arguments names fact.inv asks (subst (λ (x : AgendaView). Serves x w None) (sym is) serves).tasks
 
 pub call-serves : (a0 a b : AgendaView) (w v : Known) (app : ℕ) (arguments : List Value) (names : List Text) → a0 ≡ a → IsFact w → IsExact a0.graph.callbacks → MainAsks w (request.Call app arguments names) → Serves a w None → v ≡ called w (call_of w app arguments names)
-    → b.graph ≡ with_task (next_path w) (inputs arguments) a0.graph → b.launched ≡ a0.launched → b.over ≡ a0.over → b.spare ≡ a0.spare → b.unsettled ≡ a0.unsettled + 1 → Serves b v None
-call-serves a0 a b w v app arguments names is fact exact asks serves after graph launches over spare unsettled =
+    → b.graph ≡ with_task (next_path w) (inputs arguments) a0.graph → b.launched ≡ a0.launched → b.over ≡ a0.over → b.kept ≡ a0.kept → b.spare ≡ a0.spare → b.unsettled ≡ a0.unsettled + 1 → Serves b v None
+call-serves a0 a b w v app arguments names is fact exact asks serves after graph launches over kept spare unsettled =
+    let here : Serves a0 w None = subst (λ (x : AgendaView). Serves x w None) (sym is) serves in
     subst (λ (u : Known). Serves b u None) (sym after)
-    (serves-called a0 b w app arguments names fact.inv exact asks (subst (λ (x : AgendaView). Serves x w None) (sym is) serves) graph launches over spare unsettled)
+    (record {
+      tasks = serves-called a0 b w app arguments names fact.inv exact asks here.tasks graph launches over spare unsettled;
+      front = front-called a0 b w (call_of w app arguments names) None fact.inv (keep-called w app arguments names fact.inv asks) here.tasks over kept here.front;
+    })
 
 -- ---- the bodies of joins
 
@@ -160,7 +177,7 @@ module _ (w : Known) (k : ℕ) (values : List Value) (can : CanRunJoin w k value
 
   module _ (a0 a : AgendaView) (is : a0 ≡ a) (fact : IsFact w) (serves : Serves a w (Some k)) where
     pub join-stores : CanStoreJoinOf a0.graph w k values
-    join-stores = can-store a0 w k values fact.inv can.not_ended can.callback (subst (λ (x : AgendaView). Serves x w (Some k)) (sym is) serves)
+    join-stores = can-store a0 w k values fact.inv can.not_ended can.callback (subst (λ (x : AgendaView). Serves x w (Some k)) (sym is) serves).tasks
 
     pub join-undone : (v : Known) (h : List (List Settlement)) (r : Refusal) → v ≡ w → h ≡ a0.graph.told → IsRefusedFor (λ u. u ≡ carried_out w k (begin_at w k)) r → IsUndone (retold a.graph.told w) (retold h v) (λ u. u ≡ carried_out (retold a.graph.told w) k (begin_at w k)) r
     join-undone v h r same told cause =
@@ -175,11 +192,17 @@ module _ (w : Known) (k : ℕ) (values : List Value) (can : CanRunJoin w k value
         let limit : length v.calls ≤ max_tasks = ((passed-none v).0 after_fact.within).0 in
         omega (arith, grows, below, limit)
 
-    pub join-serves : (b : AgendaView) (v : Known) → IsExact a0.graph.callbacks → v ≡ carried_out w k (begin_at w k) → IsJoinStored a0.graph w k values b.graph → b.launched ≡ a0.launched → b.over ≡ a0.over → b.spare ≡ a0.spare → b.unsettled ≡ a0.unsettled + (length v.calls - length w.calls) → Serves b v None
-    join-serves b v exact after stored launches over spare unsettled =
+    pub join-serves : (b : AgendaView) (v : Known) → IsExact a0.graph.callbacks → v ≡ carried_out w k (begin_at w k) → IsJoinStored a0.graph w k values b.graph → b.launched ≡ a0.launched → b.over ≡ a0.over → b.kept ≡ a0.kept → b.spare ≡ a0.spare → b.unsettled ≡ a0.unsettled + (length v.calls - length w.calls) → Serves b v None
+    join-serves b v exact after stored launches over kept spare unsettled =
+        let ran = join_dry (apps_in w) (path_at w k) can.app values in
         let grows = join-grows v after in
+        let here : Serves a0 w (Some k) = subst (λ (x : AgendaView). Serves x w (Some k)) (sym is) serves in
+        let may : CanJoin w k ran = record { not_ended = can.not_ended; callback = can.callback; app = can.app; values = values; begins = can.begins; is = refl } in
         subst (λ (u : Known). Serves b u None) (sym (joins_so v after))
-        (serves-joined a0 b w k can.app values fact.inv exact can.not_ended can.callback can.begins (subst (λ (x : AgendaView). Serves x w (Some k)) (sym is) serves) (stored can.app can.begins) launches over spare (omega (arith, grows, unsettled)))
+        (record {
+          tasks = serves-joined a0 b w k can.app values fact.inv exact can.not_ended can.callback can.begins here.tasks (stored can.app can.begins) launches over spare (omega (arith, grows, unsettled));
+          front = front-joined a0 b w k ran (Some k) fact.inv (keep-joined w k ran fact.inv may) can.callback here.tasks over kept here.front;
+        })
 
 -- ---- which callback
 
@@ -188,16 +211,22 @@ module _ (a0 a : AgendaView) (w : Known) (is : a0 ≡ a) (fact : IsFact w) (serv
   here = subst (λ (x : AgendaView). Serves x w None) (sym is) serves
 
   pub next-none : ((c : ℕ) → IsReadyCallback a0.graph.callbacks c → has_number c (take a0.graph.callbacks.given a0.graph.callbacks.made) ≡ true) → ((k : ℕ) → IsCallback w k → ⊥) × ((k : ℕ) → IsJoinDone w k → ⊥)
-  next-none none = none-ready a0 w fact.inv here none
+  next-none none = none-ready a0 w fact.inv here.tasks none
 
   pub next-launch : (k : ℕ) → IsExact a0.graph.callbacks → Some (Launch k) ≡ next_of a0.graph.callbacks → IsCallback w k × Serves (with_graph (with_next a0.graph) a0) w (Some k)
-  next-launch k exact given = given-launch a0 w k fact.inv here exact (sym given)
+  next-launch k exact given =
+      let next = given-launch a0 w k fact.inv here.tasks exact (sym given) in
+      (next.0, record { tasks = next.1; front = front-graph a0 (with_next a0.graph) w here.front })
 
   pub next-failure : (k : ℕ) → IsExact a0.graph.callbacks → Some (DepFail k) ≡ next_of a0.graph.callbacks → IsCallback w k × Serves (with_graph (with_next a0.graph) a0) w (Some k)
-  next-failure k exact given = given-failure a0 w k fact.inv here exact (sym given)
+  next-failure k exact given =
+      let next = given-failure a0 w k fact.inv here.tasks exact (sym given) in
+      (next.0, record { tasks = next.1; front = front-graph a0 (with_next a0.graph) w here.front })
 
   pub next-join : (k : ℕ) → IsExact a0.graph.callbacks → Some (JoinDone k) ≡ next_of a0.graph.callbacks → IsJoinDone w k × Serves (with_graph (with_next a0.graph) a0) w (Some k)
-  next-join k exact given = given-join a0 w k fact.inv here exact (sym given)
+  next-join k exact given =
+      let next = given-join a0 w k fact.inv here.tasks exact (sym given) in
+      (next.0, record { tasks = next.1; front = front-graph a0 (with_next a0.graph) w here.front })
 
 -- the agenda with the graph that the callback left
 pub next-serves : (g : Graph) (b : AgendaView) (w : Known) (k : ℕ) → g ≡ with_next b.graph → Serves (with_graph (with_next b.graph) b) w (Some k) → Serves (with_graph g b) w (Some k)

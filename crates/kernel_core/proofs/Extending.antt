@@ -11,12 +11,13 @@ use Rattle.flow_meaning.specs.Inputs.{Path, path_in}
 use Rattle.flow_meaning.specs.Meaning.{Done}
 use Rattle.flow_meaning.specs.Sequential.{outcome_at}
 use Rattle.call_rules.specs.Calls.{Call, Begin, Fails, Attempts, Joins, join_dry}
+use Rattle.memo_table.specs.declared.saved.Saved.{Saved}
 use Rattle.kernel_model.specs.declared.answers.Delivered.{Delivered}
 use Rattle.kernel_model.specs.declared.answers.Delivered.TheVariants.{Taken, Stale}
 use Rattle.kernel_model.specs.Jobs.{JobView, DoneView}
-use Rattle.kernel_model.specs.Known.{Known, known, begin_at, path_at, apps_in, main_left}
+use Rattle.kernel_model.specs.Known.{Known, known, begin_at, saved_at, path_at, apps_in, main_left}
 use Rattle.kernel_model.specs.Acts.{submitted, all_submitted, joining}
-use Rattle.kernel_model.specs.Turns.{unsettled_step, outcome_step, wait_step, request_step, act_step, unless_ended, script_step, CarriesOut, begins, ends, carried_out, CallbackTurn, FetchTurn, DeliverTurn, SettleTurn, EndTurn, Extends}
+use Rattle.kernel_model.specs.Turns.{unsettled_step, outcome_step, wait_step, request_step, act_step, unless_ended, script_step, CarriesOut, begins, ends, attempted, carried_out, CallbackTurn, FetchTurn, DeliverTurn, StoreTurn, SettleTurn, EndTurn, Extends}
 
 pub extends_same : (w v : Known) → v ≡ w → Extends w v
 extends_same w v e = record { added = []; past = ap (λ (u : Known). u.past) e; tree = ap (λ (u : Known). u.tree) e }
@@ -70,9 +71,13 @@ extends_submitted : (w : Known) (cs : List Call) → Extends w (all_submitted w 
 extends_submitted w [] = extends_same w w refl
 extends_submitted w (c ∷ cs) = extends_on w (submitted w c) (all_submitted (submitted w c) cs) (record { added = _ ∷ []; past = refl; tree = refl }) (extends_submitted (submitted w c) cs)
 
+extends_attempted : (w : Known) (k : ℕ) (saved : Option Saved) → Extends w (attempted w k saved)
+extends_attempted w k None = record { added = _ ∷ []; past = refl; tree = refl }
+extends_attempted w k (Some saved) = record { added = _ ∷ _ ∷ []; past = refl; tree = refl }
+
 extends_carried : (w : Known) (k : ℕ) (b : Begin) → Extends w (carried_out w k b)
 extends_carried w k (Fails exception) = record { added = _ ∷ []; past = refl; tree = refl }
-extends_carried w k (Attempts app values) = record { added = _ ∷ []; past = refl; tree = refl }
+extends_carried w k (Attempts app values) = extends_attempted w k (saved_at w k)
 extends_carried w k (Joins app values) =
     let ran = join_dry (apps_in w) (path_at w k) app values in
     extends_on w (joining w k ran) (all_submitted (joining w k ran) ran.1) (record { added = _ ∷ []; past = refl; tree = refl }) (extends_submitted (joining w k ran) ran.1)
@@ -92,6 +97,10 @@ extends_fetch w v None did = extends_same w v did.1
 pub extends_deliver : (w v : Known) (done : DoneView) (answer : Delivered) → DeliverTurn w done answer v → Extends w v
 extends_deliver w v done Taken did = extends_as w _ v did.after (record { added = _ ∷ []; past = refl; tree = refl })
 extends_deliver w v done Stale did = extends_same w v did.1
+
+pub extends_store : (w v : Known) (did : Bool) → StoreTurn w did v → Extends w v
+extends_store w v true did = extends_as w _ v did.after (record { added = _ ∷ []; past = refl; tree = refl })
+extends_store w v false did = extends_same w v did.1
 
 pub extends_settle : (w v : Known) (did : Bool) → SettleTurn w did v → Extends w v
 extends_settle w v true did = extends_as w _ v did.after (record { added = _ ∷ []; past = refl; tree = refl })

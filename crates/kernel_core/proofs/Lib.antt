@@ -18,6 +18,11 @@ pub mod StateViews
 pub mod TaskActs
 pub mod Settling
 pub mod Opened
+pub mod KeptPlaces
+pub mod Recalling
+pub mod Storing
+pub mod StoringActs
+pub mod RecallingActs
 pub mod LastEntry
 pub mod Joining
 pub mod JoiningExceptions
@@ -25,6 +30,7 @@ pub mod JoiningEnds
 pub mod JoiningBodies
 pub mod Serving
 pub mod CarriedOut
+pub mod Recalled
 pub mod Turning
 pub mod NoneGiven
 pub mod TurnsTold

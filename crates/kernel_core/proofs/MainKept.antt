@@ -5,12 +5,13 @@ use Rattle.flow_meaning.specs.declared.walk.Answer.{Answer}
 use Rattle.flow_meaning.specs.Act.{after}
 use Rattle.flow_meaning.specs.Walk.{main_act}
 use Rattle.call_rules.specs.Calls.{Call, Begin, Fails, Attempts, Joins, join_dry}
+use Rattle.memo_table.specs.declared.saved.Saved.{Saved}
 use Rattle.kernel_model.specs.declared.answers.Delivered.{Delivered}
 use Rattle.kernel_model.specs.declared.answers.Delivered.TheVariants.{Taken, Stale}
 use Rattle.kernel_model.specs.Jobs.{JobView, DoneView}
-use Rattle.kernel_model.specs.Known.{Known, begin_at, path_at, apps_in}
+use Rattle.kernel_model.specs.Known.{Known, begin_at, saved_at, path_at, apps_in}
 use Rattle.kernel_model.specs.Acts.{submitted, all_submitted, joining}
-use Rattle.kernel_model.specs.Turns.{CarriesOut, begins, ends, carried_out, CallbackTurn, FetchTurn, DeliverTurn, SettleTurn, EndTurn}
+use Rattle.kernel_model.specs.Turns.{CarriesOut, begins, ends, attempted, carried_out, CallbackTurn, FetchTurn, DeliverTurn, StoreTurn, SettleTurn, EndTurn}
 use Rattle.kernel_core.specs.declared.main_walk.MainWalk.{MainWalk}
 use Rattle.kernel_core.specs.MainWalks.{rest_in, Stands}
 
@@ -41,9 +42,13 @@ keeps_submitted : (w : Known) (cs : List Call) → KeepsMain w (all_submitted w 
 keeps_submitted w [] = keeps-same w w refl
 keeps_submitted w (c ∷ cs) = keeps_on w (submitted w c) (all_submitted (submitted w c) cs) (record { tree = refl; answers = refl; ending = refl; refusal = refl }) (keeps_submitted (submitted w c) cs)
 
+keeps_attempted : (w : Known) (k : ℕ) (saved : Option Saved) → KeepsMain w (attempted w k saved)
+keeps_attempted w k None = record { tree = refl; answers = refl; ending = refl; refusal = refl }
+keeps_attempted w k (Some saved) = record { tree = refl; answers = refl; ending = refl; refusal = refl }
+
 keeps_carried : (w : Known) (k : ℕ) (b : Begin) → KeepsMain w (carried_out w k b)
 keeps_carried w k (Fails exception) = record { tree = refl; answers = refl; ending = refl; refusal = refl }
-keeps_carried w k (Attempts app values) = record { tree = refl; answers = refl; ending = refl; refusal = refl }
+keeps_carried w k (Attempts app values) = keeps_attempted w k (saved_at w k)
 keeps_carried w k (Joins app values) =
     let ran = join_dry (apps_in w) (path_at w k) app values in
     keeps_on w (joining w k ran) (all_submitted (joining w k ran) ran.1) (record { tree = refl; answers = refl; ending = refl; refusal = refl }) (keeps_submitted (joining w k ran) ran.1)
@@ -63,6 +68,10 @@ fetch-keeps w v None did = keeps-same w v did.1
 pub deliver-keeps : (w v : Known) (done : DoneView) (answer : Delivered) → DeliverTurn w done answer v → KeepsMain w v
 deliver-keeps w v done Taken did = keeps_as w _ v did.after (record { tree = refl; answers = refl; ending = refl; refusal = refl })
 deliver-keeps w v done Stale did = keeps-same w v did.1
+
+pub store-keeps : (w v : Known) (did : Bool) → StoreTurn w did v → KeepsMain w v
+store-keeps w v true did = keeps_as w _ v did.after (record { tree = refl; answers = refl; ending = refl; refusal = refl })
+store-keeps w v false did = keeps-same w v did.1
 
 pub settle-keeps : (w v : Known) (did : Bool) → SettleTurn w did v → KeepsMain w v
 settle-keeps w v true did = keeps_as w _ v did.after (record { tree = refl; answers = refl; ending = refl; refusal = refl })

@@ -11,6 +11,7 @@ use Rattle.flow_meaning.specs.declared.walk.Answer.{Answer}
 use Rattle.flow_meaning.specs.declared.walk.Answer.TheVariants as answer
 use Rattle.flow_meaning.specs.Sequential.{MainAct, Calls, Waits, Prints, Checkpoints, outcome_answer}
 use Rattle.call_rules.specs.Calls.{Call}
+use Rattle.memo_table.specs.Table.{MemoView}
 use Rattle.kernel_model.specs.declared.answers.Refusal.{Refusal}
 use Rattle.kernel_model.specs.Known.{Known, Life, no_call, no_life, outcome_in}
 use Rattle.kernel_model.specs.Acts.{future_of, pending, submit_of, answered, called}
@@ -65,15 +66,15 @@ running-push (life ∷ lives) = ap (λ (n : ℕ). runs life.status + n) (running
 -- ---- views
 
 -- a step behind the others
-pub view-answered : (tree : Tree) (tasks : List Task) (steps : List MainStep) (arrived : Bool) (ending : Option Ending) (log : List Entry) (refusal : Option Refusal) (told : List (List Settlement)) (s : MainStep)
-    → known_with tree tasks (steps ++ s ∷ []) false ending log refusal told ≡ answered (known_with tree tasks steps arrived ending log refusal told) (answer_of (map call_of tasks) (map life_of tasks) s) (acts_of (map call_of tasks) s)
-view-answered tree tasks steps arrived ending log refusal told s =
+pub view-answered : (tree : Tree) (tasks : List Task) (steps : List MainStep) (arrived : Bool) (ending : Option Ending) (memo : MemoView) (log : List Entry) (refusal : Option Refusal) (told : List (List Settlement)) (s : MainStep)
+    → known_with tree tasks (steps ++ s ∷ []) false ending memo log refusal told ≡ answered (known_with tree tasks steps arrived ending memo log refusal told) (answer_of (map call_of tasks) (map life_of tasks) s) (acts_of (map call_of tasks) s)
+view-answered tree tasks steps arrived ending memo log refusal told s =
     let cs : List Call = map call_of tasks in
     let lives : List Life = map life_of tasks in
     let answers : map (answer_of cs lives) (steps ++ s ∷ []) ≡ map (answer_of cs lives) steps ++ answer_of cs lives s ∷ [] = map-append (answer_of cs lives) steps (s ∷ []) in
     let acts : flat_map (acts_of cs) (steps ++ s ∷ []) ≡ flat_map (acts_of cs) steps ++ acts_of cs s = flat_map-append (acts_of cs) steps (s ∷ []) ∙ ap (λ (l : List MainAct). flat_map (acts_of cs) steps ++ l) (last cs s) in
-    ap (λ (l : List Answer). record { tree = tree; answers = l; arrived = false; ending = ending; calls = cs; lives = lives; acts = flat_map (acts_of cs) (steps ++ s ∷ []); past = reverse log; refusal = refusal; told = told }) answers
-    ∙ ap (λ (l : List MainAct). record { tree = tree; answers = map (answer_of cs lives) steps ++ answer_of cs lives s ∷ []; arrived = false; ending = ending; calls = cs; lives = lives; acts = l; past = reverse log; refusal = refusal; told = told }) acts
+    ap (λ (l : List Answer). record { tree = tree; answers = l; arrived = false; ending = ending; memo = memo; calls = cs; lives = lives; acts = flat_map (acts_of cs) (steps ++ s ∷ []); past = reverse log; refusal = refusal; told = told }) answers
+    ∙ ap (λ (l : List MainAct). record { tree = tree; answers = map (answer_of cs lives) steps ++ answer_of cs lives s ∷ []; arrived = false; ending = ending; memo = memo; calls = cs; lives = lives; acts = l; past = reverse log; refusal = refusal; told = told }) acts
   where
     last : (cs : List Call) (s : MainStep) → flat_map (acts_of cs) (s ∷ []) ≡ acts_of cs s
     last cs (step.Call k) = refl
@@ -88,10 +89,10 @@ pub record IsPushed (tree : Tree) (tasks : List Task) (t : Task) (c : Call) (k :
   pub number : k ≡ length tasks
   pub entry : e ≡ submit_of w c
 
-pub view-called : (tree : Tree) (tasks : List Task) (steps : List MainStep) (arrived : Bool) (ending : Option Ending) (log : List Entry) (refusal : Option Refusal) (told : List (List Settlement)) (t : Task) (c : Call) (k : ℕ) (e : Entry)
-    → AreOver (map call_of tasks) (map life_of tasks) steps → IsPushed tree tasks t c k e (known_with tree tasks steps arrived ending log refusal told)
-    → known_with tree (tasks ++ t ∷ []) (steps ++ step.Call k ∷ []) false ending (log ++ e ∷ []) refusal told ≡ called (known_with tree tasks steps arrived ending log refusal told) c
-view-called tree tasks steps arrived ending log refusal told t c k e over h =
+pub view-called : (tree : Tree) (tasks : List Task) (steps : List MainStep) (arrived : Bool) (ending : Option Ending) (memo : MemoView) (log : List Entry) (refusal : Option Refusal) (told : List (List Settlement)) (t : Task) (c : Call) (k : ℕ) (e : Entry)
+    → AreOver (map call_of tasks) (map life_of tasks) steps → IsPushed tree tasks t c k e (known_with tree tasks steps arrived ending memo log refusal told)
+    → known_with tree (tasks ++ t ∷ []) (steps ++ step.Call k ∷ []) false ending memo (log ++ e ∷ []) refusal told ≡ called (known_with tree tasks steps arrived ending memo log refusal told) c
+view-called tree tasks steps arrived ending memo log refusal told t c k e over h =
     let cs : List Call = map call_of tasks in
     let lives : List Life = map life_of tasks in
     let calls_are : map call_of (tasks ++ t ∷ []) ≡ cs ++ c ∷ [] = map-append call_of tasks (t ∷ []) ∙ ap (λ (d : Call). cs ++ d ∷ []) h.call in
@@ -107,11 +108,11 @@ view-called tree tasks steps arrived ending log refusal told t c k e over h =
     ∙ ap (λ (l : List MainAct). l ++ Calls (get_or (cs ++ c ∷ []) k no_call).path ∷ []) (acts-push cs lives c steps over)
     ∙ ap (λ (d : Call). flat_map (acts_of cs) steps ++ Calls d.path ∷ []) last in
     let past : reverse (log ++ e ∷ []) ≡ e ∷ reverse log = reverse-append log (e ∷ []) in
-    parts (map call_of (tasks ++ t ∷ [])) (map life_of (tasks ++ t ∷ [])) (cs ++ c ∷ []) (lives ++ pending ∷ []) (map (answer_of cs lives) steps ++ answer.Called (future_of c) ∷ []) (flat_map (acts_of cs) steps ++ Calls c.path ∷ []) (reverse (log ++ e ∷ [])) (submit_of (known_with tree tasks steps arrived ending log refusal told) c ∷ reverse log)
+    parts (map call_of (tasks ++ t ∷ [])) (map life_of (tasks ++ t ∷ [])) (cs ++ c ∷ []) (lives ++ pending ∷ []) (map (answer_of cs lives) steps ++ answer.Called (future_of c) ∷ []) (flat_map (acts_of cs) steps ++ Calls c.path ∷ []) (reverse (log ++ e ∷ [])) (submit_of (known_with tree tasks steps arrived ending memo log refusal told) c ∷ reverse log)
     calls_are lives_are answers acts (past ∙ ap (λ (f : Entry). f ∷ reverse log) h.entry)
   where
     whole : List Call → List Life → List Answer → List MainAct → List Entry → Known
-    whole cs lives answers acts past = record { tree = tree; answers = answers; arrived = false; ending = ending; calls = cs; lives = lives; acts = acts; past = past; refusal = refusal; told = told }
+    whole cs lives answers acts past = record { tree = tree; answers = answers; arrived = false; ending = ending; memo = memo; calls = cs; lives = lives; acts = acts; past = past; refusal = refusal; told = told }
 
     parts : (cs : List Call) (lives : List Life) (ds : List Call) (others : List Life) (answers : List Answer) (acts : List MainAct) (past before : List Entry) → cs ≡ ds → lives ≡ others
         → map (answer_of ds others) (steps ++ step.Call k ∷ []) ≡ answers → flat_map (acts_of ds) (steps ++ step.Call k ∷ []) ≡ acts → past ≡ before

@@ -22,6 +22,7 @@ use Rattle.flow_meaning.specs.declared.walk.Answer.TheVariants as answer
 use Rattle.call_rules.specs.Calls.{Call}
 use Rattle.history_laws.specs.Reads.{submits}
 use Rattle.stored_units.specs.Stored.{max_tasks, max_stored, name_units, call_units}
+use Rattle.memo_table.specs.Table.{MemoView}
 use Rattle.kernel_model.specs.declared.answers.Refusal.{Refusal}
 use Rattle.kernel_model.specs.Known.{Known, Life, path_at, settled_outcome}
 use Rattle.kernel_model.specs.Acts.{pending, answered, called, call_of as next_call, waited, printed, checkpointed}
@@ -41,76 +42,76 @@ use Rattle.kernel_core.proofs.MainViews.{IsPushed, over-push, over-append, runni
 
 -- ---- one more step
 
-step_sound : (v : Known) (tree : Tree) (tasks : List Task) (steps : List MainStep) (arrived : Bool) (ending : Option Ending) (log : List Entry) (refusal : Option Refusal) (told : List (List Settlement)) (running kept more : ℕ) (s : MainStep)
-    → IsSound (known_with tree tasks steps arrived ending log refusal told) tasks steps running kept
-    → known_with tree tasks (steps ++ s ∷ []) false ending log refusal told ≡ v → IsFact v → AreOver (map call_of tasks) (map life_of tasks) (s ∷ []) → more ≡ stored v
-    → IsSound (known_with tree tasks (steps ++ s ∷ []) false ending log refusal told) tasks (steps ++ s ∷ []) running more
-step_sound v tree tasks steps arrived ending log refusal told running kept more s sound is fact over count = record {
+step_sound : (v : Known) (tree : Tree) (tasks : List Task) (steps : List MainStep) (arrived : Bool) (ending : Option Ending) (memo : MemoView) (log : List Entry) (refusal : Option Refusal) (told : List (List Settlement)) (running kept more : ℕ) (s : MainStep)
+    → IsSound (known_with tree tasks steps arrived ending memo log refusal told) tasks steps running kept
+    → known_with tree tasks (steps ++ s ∷ []) false ending memo log refusal told ≡ v → IsFact v → AreOver (map call_of tasks) (map life_of tasks) (s ∷ []) → more ≡ stored v
+    → IsSound (known_with tree tasks (steps ++ s ∷ []) false ending memo log refusal told) tasks (steps ++ s ∷ []) running more
+step_sound v tree tasks steps arrived ending memo log refusal told running kept more s sound is fact over count = record {
   fact = subst IsFact (sym is) fact;
   over = over-append (map call_of tasks) (map life_of tasks) steps (s ∷ []) sound.over over;
   running = sound.running;
   units_are = count ∙ ap stored (sym is);
 }
 
-pub print-sound : (w : Known) (tree : Tree) (tasks : List Task) (steps : List MainStep) (arrived : Bool) (ending : Option Ending) (log : List Entry) (refusal : Option Refusal) (told : List (List Settlement)) (running kept n : ℕ) (value : Value)
-    → IsSound (known_with tree tasks steps arrived ending log refusal told) tasks steps running kept → known_with tree tasks steps arrived ending log refusal told ≡ w
+pub print-sound : (w : Known) (tree : Tree) (tasks : List Task) (steps : List MainStep) (arrived : Bool) (ending : Option Ending) (memo : MemoView) (log : List Entry) (refusal : Option Refusal) (told : List (List Settlement)) (running kept n : ℕ) (value : Value)
+    → IsSound (known_with tree tasks steps arrived ending memo log refusal told) tasks steps running kept → known_with tree tasks steps arrived ending memo log refusal told ≡ w
     → MainAsks w (request.Print value) → n ≡ min (units value) (2 ^ 64 - 1) → n ≤ max_stored - kept
-    → IsSound (known_with tree tasks (steps ++ step.Print value ∷ []) false ending log refusal told) tasks (steps ++ step.Print value ∷ []) running (kept + n)
-print-sound w tree tasks steps arrived ending log refusal told running kept n value sound view asks cut small =
-    let u : Known = known_with tree tasks steps arrived ending log refusal told in
+    → IsSound (known_with tree tasks (steps ++ step.Print value ∷ []) false ending memo log refusal told) tasks (steps ++ step.Print value ∷ []) running (kept + n)
+print-sound w tree tasks steps arrived ending memo log refusal told running kept n value sound view asks cut small =
+    let u : Known = known_with tree tasks steps arrived ending memo log refusal told in
     let within : kept ≤ max_stored = subst (λ (k : ℕ). k ≤ max_stored) (sym sound.units_are) (fact-stored u sound.fact) in
     let fits = units-fit kept n (units value) cut small within in
     let asks_u = subst (λ (w : Known). MainAsks w (request.Print value)) (sym view) asks in
     let total : kept + n ≡ stored u + units value = ap (λ (m : ℕ). m + n) sound.units_are ∙ ap (λ (m : ℕ). stored u + m) fits.0 in
-    step_sound (printed u value) tree tasks steps arrived ending log refusal told running kept (kept + n) (step.Print value) sound
-    (view-answered tree tasks steps arrived ending log refusal told (step.Print value))
+    step_sound (printed u value) tree tasks steps arrived ending memo log refusal told running kept (kept + n) (step.Print value) sound
+    (view-answered tree tasks steps arrived ending memo log refusal told (step.Print value))
     (fact-printed u value sound.fact asks_u (subst (λ (m : ℕ). m ≤ max_stored) total fits.1)) tt (total ∙ sym (stored-printed u value))
 
-pub print-view : (w : Known) (tree : Tree) (tasks : List Task) (steps : List MainStep) (arrived : Bool) (ending : Option Ending) (log : List Entry) (refusal : Option Refusal) (told : List (List Settlement)) (value : Value)
-    → known_with tree tasks steps arrived ending log refusal told ≡ w → known_with tree tasks (steps ++ step.Print value ∷ []) false ending log refusal told ≡ printed w value
-print-view w tree tasks steps arrived ending log refusal told value view = view-answered tree tasks steps arrived ending log refusal told (step.Print value) ∙ ap (λ (u : Known). printed u value) view
+pub print-view : (w : Known) (tree : Tree) (tasks : List Task) (steps : List MainStep) (arrived : Bool) (ending : Option Ending) (memo : MemoView) (log : List Entry) (refusal : Option Refusal) (told : List (List Settlement)) (value : Value)
+    → known_with tree tasks steps arrived ending memo log refusal told ≡ w → known_with tree tasks (steps ++ step.Print value ∷ []) false ending memo log refusal told ≡ printed w value
+print-view w tree tasks steps arrived ending memo log refusal told value view = view-answered tree tasks steps arrived ending memo log refusal told (step.Print value) ∙ ap (λ (u : Known). printed u value) view
 
-pub checkpoint-sound : (w : Known) (tree : Tree) (tasks : List Task) (steps : List MainStep) (arrived : Bool) (ending : Option Ending) (log : List Entry) (refusal : Option Refusal) (told : List (List Settlement)) (running kept : ℕ)
-    → IsSound (known_with tree tasks steps arrived ending log refusal told) tasks steps running kept → known_with tree tasks steps arrived ending log refusal told ≡ w
+pub checkpoint-sound : (w : Known) (tree : Tree) (tasks : List Task) (steps : List MainStep) (arrived : Bool) (ending : Option Ending) (memo : MemoView) (log : List Entry) (refusal : Option Refusal) (told : List (List Settlement)) (running kept : ℕ)
+    → IsSound (known_with tree tasks steps arrived ending memo log refusal told) tasks steps running kept → known_with tree tasks steps arrived ending memo log refusal told ≡ w
     → MainAsks w request.Checkpoint
-    → IsSound (known_with tree tasks (steps ++ step.Checkpoint ∷ []) false ending log refusal told) tasks (steps ++ step.Checkpoint ∷ []) running kept
-checkpoint-sound w tree tasks steps arrived ending log refusal told running kept sound view asks =
-    let u : Known = known_with tree tasks steps arrived ending log refusal told in
+    → IsSound (known_with tree tasks (steps ++ step.Checkpoint ∷ []) false ending memo log refusal told) tasks (steps ++ step.Checkpoint ∷ []) running kept
+checkpoint-sound w tree tasks steps arrived ending memo log refusal told running kept sound view asks =
+    let u : Known = known_with tree tasks steps arrived ending memo log refusal told in
     let asks_u = subst (λ (w : Known). MainAsks w request.Checkpoint) (sym view) asks in
-    step_sound (checkpointed u) tree tasks steps arrived ending log refusal told running kept kept step.Checkpoint sound
-    (view-answered tree tasks steps arrived ending log refusal told step.Checkpoint)
+    step_sound (checkpointed u) tree tasks steps arrived ending memo log refusal told running kept kept step.Checkpoint sound
+    (view-answered tree tasks steps arrived ending memo log refusal told step.Checkpoint)
     (fact-checkpointed u sound.fact asks_u) tt (sound.units_are ∙ sym (stored-checkpointed u))
 
-pub checkpoint-view : (w : Known) (tree : Tree) (tasks : List Task) (steps : List MainStep) (arrived : Bool) (ending : Option Ending) (log : List Entry) (refusal : Option Refusal) (told : List (List Settlement))
-    → known_with tree tasks steps arrived ending log refusal told ≡ w → known_with tree tasks (steps ++ step.Checkpoint ∷ []) false ending log refusal told ≡ checkpointed w
-checkpoint-view w tree tasks steps arrived ending log refusal told view = view-answered tree tasks steps arrived ending log refusal told step.Checkpoint ∙ ap checkpointed view
+pub checkpoint-view : (w : Known) (tree : Tree) (tasks : List Task) (steps : List MainStep) (arrived : Bool) (ending : Option Ending) (memo : MemoView) (log : List Entry) (refusal : Option Refusal) (told : List (List Settlement))
+    → known_with tree tasks steps arrived ending memo log refusal told ≡ w → known_with tree tasks (steps ++ step.Checkpoint ∷ []) false ending memo log refusal told ≡ checkpointed w
+checkpoint-view w tree tasks steps arrived ending memo log refusal told view = view-answered tree tasks steps arrived ending memo log refusal told step.Checkpoint ∙ ap checkpointed view
 
 -- ---- waits
 
-waited_view : (tree : Tree) (tasks : List Task) (steps : List MainStep) (arrived : Bool) (ending : Option Ending) (log : List Entry) (refusal : Option Refusal) (told : List (List Settlement)) (k : ℕ) (outcome : Outcome)
-    → settled_outcome (known_with tree tasks steps arrived ending log refusal told) k ≡ Some outcome
-    → known_with tree tasks (steps ++ step.Wait k ∷ []) false ending log refusal told ≡ waited (known_with tree tasks steps arrived ending log refusal told) (path_at (known_with tree tasks steps arrived ending log refusal told) k) outcome
-waited_view tree tasks steps arrived ending log refusal told k outcome settled =
-    let u : Known = known_with tree tasks steps arrived ending log refusal told in
-    view-answered tree tasks steps arrived ending log refusal told (step.Wait k)
+waited_view : (tree : Tree) (tasks : List Task) (steps : List MainStep) (arrived : Bool) (ending : Option Ending) (memo : MemoView) (log : List Entry) (refusal : Option Refusal) (told : List (List Settlement)) (k : ℕ) (outcome : Outcome)
+    → settled_outcome (known_with tree tasks steps arrived ending memo log refusal told) k ≡ Some outcome
+    → known_with tree tasks (steps ++ step.Wait k ∷ []) false ending memo log refusal told ≡ waited (known_with tree tasks steps arrived ending memo log refusal told) (path_at (known_with tree tasks steps arrived ending memo log refusal told) k) outcome
+waited_view tree tasks steps arrived ending memo log refusal told k outcome settled =
+    let u : Known = known_with tree tasks steps arrived ending memo log refusal told in
+    view-answered tree tasks steps arrived ending memo log refusal told (step.Wait k)
     ∙ ap (λ (found : Option Outcome). answered u (outcome_answer found) (Waits (path_at u k) ∷ [])) settled
 
-pub wait-sound : (w : Known) (tree : Tree) (tasks : List Task) (steps : List MainStep) (arrived : Bool) (ending : Option Ending) (log : List Entry) (refusal : Option Refusal) (told : List (List Settlement)) (running kept k : ℕ)
-    → IsSound (known_with tree tasks steps arrived ending log refusal told) tasks steps running kept → known_with tree tasks steps arrived ending log refusal told ≡ w
+pub wait-sound : (w : Known) (tree : Tree) (tasks : List Task) (steps : List MainStep) (arrived : Bool) (ending : Option Ending) (memo : MemoView) (log : List Entry) (refusal : Option Refusal) (told : List (List Settlement)) (running kept k : ℕ)
+    → IsSound (known_with tree tasks steps arrived ending memo log refusal told) tasks steps running kept → known_with tree tasks steps arrived ending memo log refusal told ≡ w
     → CanWait w k
-    → IsSound (known_with tree tasks (steps ++ step.Wait k ∷ []) false ending log refusal told) tasks (steps ++ step.Wait k ∷ []) running kept
-wait-sound w tree tasks steps arrived ending log refusal told running kept k sound view can =
-    let u : Known = known_with tree tasks steps arrived ending log refusal told in
+    → IsSound (known_with tree tasks (steps ++ step.Wait k ∷ []) false ending memo log refusal told) tasks (steps ++ step.Wait k ∷ []) running kept
+wait-sound w tree tasks steps arrived ending memo log refusal told running kept k sound view can =
+    let u : Known = known_with tree tasks steps arrived ending memo log refusal told in
     let here = subst (λ (w : Known). CanWait w k) (sym view) can in
     let there : IsSome (settled_outcome u k) = rw here.settled refl in
-    step_sound (waited u (path_at u k) here.outcome) tree tasks steps arrived ending log refusal told running kept kept (step.Wait k) sound
-    (waited_view tree tasks steps arrived ending log refusal told k here.outcome here.settled)
+    step_sound (waited u (path_at u k) here.outcome) tree tasks steps arrived ending memo log refusal told running kept kept (step.Wait k) sound
+    (waited_view tree tasks steps arrived ending memo log refusal told k here.outcome here.settled)
     (fact-waited u k here.outcome sound.fact here.waits here.settled) (here.waits.within, there, tt) (sound.units_are ∙ sym (stored-waited u (path_at u k) here.outcome))
 
-pub wait-view : (w : Known) (tree : Tree) (tasks : List Task) (steps : List MainStep) (arrived : Bool) (ending : Option Ending) (log : List Entry) (refusal : Option Refusal) (told : List (List Settlement)) (k : ℕ)
-    → known_with tree tasks steps arrived ending log refusal told ≡ w → IsWaited w k (known_with tree tasks (steps ++ step.Wait k ∷ []) false ending log refusal told)
-wait-view w tree tasks steps arrived ending log refusal told k view outcome settled =
-    waited_view tree tasks steps arrived ending log refusal told k outcome (ap (λ (u : Known). settled_outcome u k) view ∙ settled)
+pub wait-view : (w : Known) (tree : Tree) (tasks : List Task) (steps : List MainStep) (arrived : Bool) (ending : Option Ending) (memo : MemoView) (log : List Entry) (refusal : Option Refusal) (told : List (List Settlement)) (k : ℕ)
+    → known_with tree tasks steps arrived ending memo log refusal told ≡ w → IsWaited w k (known_with tree tasks (steps ++ step.Wait k ∷ []) false ending memo log refusal told)
+wait-view w tree tasks steps arrived ending memo log refusal told k view outcome settled =
+    waited_view tree tasks steps arrived ending memo log refusal told k outcome (ap (λ (u : Known). settled_outcome u k) view ∙ settled)
     ∙ ap (λ (u : Known). waited u (path_at u k) outcome) view
 
 -- ---- one more call
@@ -138,28 +139,28 @@ pushed tree tasks app arguments names path k r copy name u writes same is = reco
   entry = rw (writes.copied, is, writes.named, same) refl;
 }
 
-pub submit-view : (w : Known) (tree : Tree) (tasks : List Task) (steps : List MainStep) (arrived : Bool) (ending : Option Ending) (log : List Entry) (refusal : Option Refusal) (told : List (List Settlement)) (running kept n : ℕ)
+pub submit-view : (w : Known) (tree : Tree) (tasks : List Task) (steps : List MainStep) (arrived : Bool) (ending : Option Ending) (memo : MemoView) (log : List Entry) (refusal : Option Refusal) (told : List (List Settlement)) (running kept n : ℕ)
     (app : ℕ) (arguments : List Value) (names : List Text) (path : Path) (k : ℕ) (r : Record) (copy : Path) (name : Text)
-    → IsSound (known_with tree tasks steps arrived ending log refusal told) tasks steps running kept → known_with tree tasks steps arrived ending log refusal told ≡ w
+    → IsSound (known_with tree tasks steps arrived ending memo log refusal told) tasks steps running kept → known_with tree tasks steps arrived ending memo log refusal told ≡ w
     → AddsCall w (next_call w app arguments names) path n → Writes tree tasks app arguments names path k r copy name
-    → known_with tree (tasks ++ unended r ∷ []) (steps ++ step.Call k ∷ []) false ending (log ++ entry.Submit copy name ∷ []) refusal told ≡ called w (next_call w app arguments names)
-submit-view w tree tasks steps arrived ending log refusal told running kept n app arguments names path k r copy name sound view adds writes =
-    let u : Known = known_with tree tasks steps arrived ending log refusal told in
+    → known_with tree (tasks ++ unended r ∷ []) (steps ++ step.Call k ∷ []) false ending memo (log ++ entry.Submit copy name ∷ []) refusal told ≡ called w (next_call w app arguments names)
+submit-view w tree tasks steps arrived ending memo log refusal told running kept n app arguments names path k r copy name sound view adds writes =
+    let u : Known = known_with tree tasks steps arrived ending memo log refusal told in
     let is : path ≡ (next_call u app arguments names).path = adds.path_is ∙ ap (λ (w : Known). (next_call w app arguments names).path) (sym view) in
-    view-called tree tasks steps arrived ending log refusal told (unended r) (next_call u app arguments names) k (entry.Submit copy name) sound.over
+    view-called tree tasks steps arrived ending memo log refusal told (unended r) (next_call u app arguments names) k (entry.Submit copy name) sound.over
     (pushed tree tasks app arguments names path k r copy name u writes refl is)
     ∙ ap (λ (w : Known). called w (next_call w app arguments names)) view
 
-pub submit-sound : (w : Known) (tree : Tree) (tasks : List Task) (steps : List MainStep) (arrived : Bool) (ending : Option Ending) (log : List Entry) (refusal : Option Refusal) (told : List (List Settlement)) (running kept n : ℕ)
+pub submit-sound : (w : Known) (tree : Tree) (tasks : List Task) (steps : List MainStep) (arrived : Bool) (ending : Option Ending) (memo : MemoView) (log : List Entry) (refusal : Option Refusal) (told : List (List Settlement)) (running kept n : ℕ)
     (app : ℕ) (arguments : List Value) (names : List Text) (path : Path) (k : ℕ) (r : Record) (copy : Path) (name : Text)
-    → IsSound (known_with tree tasks steps arrived ending log refusal told) tasks steps running kept → known_with tree tasks steps arrived ending log refusal told ≡ w
+    → IsSound (known_with tree tasks steps arrived ending memo log refusal told) tasks steps running kept → known_with tree tasks steps arrived ending memo log refusal told ≡ w
     → MainAsks w (request.Call app arguments names) → AddsCall w (next_call w app arguments names) path n → Writes tree tasks app arguments names path k r copy name
-    → IsSound (known_with tree (tasks ++ unended r ∷ []) (steps ++ step.Call k ∷ []) false ending (log ++ entry.Submit copy name ∷ []) refusal told) (tasks ++ unended r ∷ []) (steps ++ step.Call k ∷ []) running (kept + n)
-submit-sound w tree tasks steps arrived ending log refusal told running kept n app arguments names path k r copy name sound view asks adds writes =
-    let u : Known = known_with tree tasks steps arrived ending log refusal told in
+    → IsSound (known_with tree (tasks ++ unended r ∷ []) (steps ++ step.Call k ∷ []) false ending memo (log ++ entry.Submit copy name ∷ []) refusal told) (tasks ++ unended r ∷ []) (steps ++ step.Call k ∷ []) running (kept + n)
+submit-sound w tree tasks steps arrived ending memo log refusal told running kept n app arguments names path k r copy name sound view asks adds writes =
+    let u : Known = known_with tree tasks steps arrived ending memo log refusal told in
     let c : Call = next_call w app arguments names in
     let fact_w = subst IsFact view sound.fact in
-    let is = submit-view w tree tasks steps arrived ending log refusal told running kept n app arguments names path k r copy name sound view adds writes in
+    let is = submit-view w tree tasks steps arrived ending memo log refusal told running kept n app arguments names path k r copy name sound view adds writes in
     let calls_are : map call_of (tasks ++ unended r ∷ []) ≡ map call_of tasks ++ call_of (unended r) ∷ [] = map-append call_of tasks (unended r ∷ []) in
     let life : life_of (unended r) ≡ pending = rw writes.made refl in
     let lives_are : map life_of (tasks ++ unended r ∷ []) ≡ map life_of tasks ++ pending ∷ [] = map-append life_of tasks (unended r ∷ []) ∙ ap (λ (l : Life). map life_of tasks ++ l ∷ []) life in
@@ -176,12 +177,12 @@ submit-sound w tree tasks steps arrived ending log refusal told running kept n a
     last_below (t ∷ tasks) c k is = let h = last_below tasks c (length tasks) refl in omega arith
 
 -- what the tests before a call give
-pub call-adds : (w : Known) (tree : Tree) (tasks : List Task) (steps : List MainStep) (arrived : Bool) (ending : Option Ending) (log : List Entry) (refusal : Option Refusal) (told : List (List Settlement)) (running kept n m mains : ℕ)
+pub call-adds : (w : Known) (tree : Tree) (tasks : List Task) (steps : List MainStep) (arrived : Bool) (ending : Option Ending) (memo : MemoView) (log : List Entry) (refusal : Option Refusal) (told : List (List Settlement)) (running kept n m mains : ℕ)
     (app : ℕ) (arguments : List Value) (names : List Text) (path : Path) (places : List Path)
-    → IsSound (known_with tree tasks steps arrived ending log refusal told) tasks steps running kept → IsIndexed (known_with tree tasks steps arrived ending log refusal told) places mains → known_with tree tasks steps arrived ending log refusal told ≡ w
+    → IsSound (known_with tree tasks steps arrived ending memo log refusal told) tasks steps running kept → IsIndexed (known_with tree tasks steps arrived ending memo log refusal told) places mains → known_with tree tasks steps arrived ending memo log refusal told ≡ w
     → m ≡ length tasks → m < max_tasks → path ≡ (mains + 1) ∷ [] → n ≡ min (call_units arguments names) (2 ^ 64 - 1) → n ≤ max_stored - kept → AddsCall w (next_call w app arguments names) path n
-call-adds w tree tasks steps arrived ending log refusal told running kept n m mains app arguments names path places sound index view count few at is fits =
-    let u : Known = known_with tree tasks steps arrived ending log refusal told in
+call-adds w tree tasks steps arrived ending memo log refusal told running kept n m mains app arguments names path places sound index view count few at is fits =
+    let u : Known = known_with tree tasks steps arrived ending memo log refusal told in
     let as_many : length u.calls ≡ m = length-map tasks call_of ∙ sym count in
     let within : kept ≤ max_stored = subst (λ (k : ℕ). k ≤ max_stored) (sym sound.units_are) (fact-stored u sound.fact) in
     let both = units-fit kept n (call_units arguments names) is fits within in
@@ -230,16 +231,16 @@ names-fit kept n arguments names is fits = small (length names) (sum (map units 
 
 -- ---- what leaves the steps
 
-pub arrive-sound : (tree : Tree) (tasks : List Task) (steps : List MainStep) (arrived : Bool) (ending : Option Ending) (log : List Entry) (refusal : Option Refusal) (told : List (List Settlement)) (running kept : ℕ)
-    → IsSound (known_with tree tasks steps arrived ending log refusal told) tasks steps running kept
-    → IsSound (known_with tree tasks steps true ending log refusal told) tasks steps running kept
-arrive-sound tree tasks steps arrived ending log refusal told running kept sound =
-    record { fact = fact-arrived (known_with tree tasks steps arrived ending log refusal told) sound.fact; over = sound.over; running = sound.running; units_are = sound.units_are }
+pub arrive-sound : (tree : Tree) (tasks : List Task) (steps : List MainStep) (arrived : Bool) (ending : Option Ending) (memo : MemoView) (log : List Entry) (refusal : Option Refusal) (told : List (List Settlement)) (running kept : ℕ)
+    → IsSound (known_with tree tasks steps arrived ending memo log refusal told) tasks steps running kept
+    → IsSound (known_with tree tasks steps true ending memo log refusal told) tasks steps running kept
+arrive-sound tree tasks steps arrived ending memo log refusal told running kept sound =
+    record { fact = fact-arrived (known_with tree tasks steps arrived ending memo log refusal told) sound.fact; over = sound.over; running = sound.running; units_are = sound.units_are }
 
-pub end_main-sound : (w : Known) (tree : Tree) (tasks : List Task) (steps : List MainStep) (arrived : Bool) (ending : Option Ending) (log : List Entry) (refusal : Option Refusal) (told : List (List Settlement)) (running kept : ℕ) (e : Ending)
-    → IsSound (known_with tree tasks steps arrived ending log refusal told) tasks steps running kept → known_with tree tasks steps arrived ending log refusal told ≡ w
+pub end_main-sound : (w : Known) (tree : Tree) (tasks : List Task) (steps : List MainStep) (arrived : Bool) (ending : Option Ending) (memo : MemoView) (log : List Entry) (refusal : Option Refusal) (told : List (List Settlement)) (running kept : ℕ) (e : Ending)
+    → IsSound (known_with tree tasks steps arrived ending memo log refusal told) tasks steps running kept → known_with tree tasks steps arrived ending memo log refusal told ≡ w
     → CanEndMain w e
-    → IsSound (known_with tree tasks steps arrived (Some e) log refusal told) tasks steps running kept
-end_main-sound w tree tasks steps arrived ending log refusal told running kept e sound view can =
-    let u : Known = known_with tree tasks steps arrived ending log refusal told in
+    → IsSound (known_with tree tasks steps arrived (Some e) memo log refusal told) tasks steps running kept
+end_main-sound w tree tasks steps arrived ending memo log refusal told running kept e sound view can =
+    let u : Known = known_with tree tasks steps arrived ending memo log refusal told in
     record { fact = fact-main-ended u e sound.fact (subst (λ (w : Known). CanEndMain w e) (sym view) can); over = sound.over; running = sound.running; units_are = sound.units_are }

@@ -6,7 +6,7 @@ use Rattle.kernel_model.specs.Known.{Known}
 use Rattle.kernel_model.proofs.Facts.{legal-now, outcome-now, complete-now}
 use Rattle.kernel_model.proofs.Retelling.{inv-retold}
 use Rattle.kernel_model.proofs.Whole.{evaluation-now}
-use Rattle.kernel_model.proofs.Totals.{done-within}
+use Rattle.kernel_model.proofs.RunTotals.{done-within}
 use Rattle.kernel_core.specs.AnyTurns.{Holds}
 use Rattle.kernel_core.specs.Views.{IsFact}
 

@@ -31,6 +31,7 @@ use Rattle.kernel_model.proofs.Counting.{stored-settled_as}
 use Rattle.kernel_model.proofs.Passing.{passed-none, passed-stored}
 use Rattle.kernel_model.proofs.KeepingTasks.{keep-settled}
 use Rattle.kernel_model.proofs.KeepingEnd.{keep-over}
+use Rattle.kernel_core.specs.Memo.{IsKeptTask}
 use Rattle.kernel_core.specs.Tasks.{life_of}
 use Rattle.agenda_model.specs.Agendas.{runs}
 use Rattle.kernel_core.specs.Turned.{AttemptIsOver}
@@ -133,7 +134,7 @@ past-sum most add u units is lt within = omega (arith, is, lt, within)
 
 -- ---- the act
 
-pub settle-keeps : (w v : Known) (tasks : List Task) (steps : List MainStep) (log same_log log_after : List Entry) (running units add k : ℕ) (t u s : Task) (r : TaskRecord) (path : Path) (outcome : Outcome) (state : Status) → w ≡ v → w.told ≡ [] → Keeps w tasks steps log running units → AttemptIsOver v k
+pub settle-keeps : (w v : Known) (tasks : List Task) (steps : List MainStep) (log same_log log_after : List Entry) (running units add k : ℕ) (t u s : Task) (r : TaskRecord) (path : Path) (outcome : Outcome) (state : Status) → w ≡ v → w.told ≡ [] → Keeps w tasks steps log running units → AttemptIsOver v k → IsKeptTask v k
     → t ≡ get_or tasks k t → r ≡ settled-record t.record state
     → s ≡ get_or tasks k s → path ≡ s.record.path
     → u ≡ get_or tasks k u → u.end ≡ Some outcome
@@ -141,7 +142,7 @@ pub settle-keeps : (w v : Known) (tasks : List Task) (steps : List MainStep) (lo
     → add ≡ min (outcome_units outcome) (2 ^ 64 - 1) → add ≤ max_stored - units
     → same_log ≡ log → log_after ≡ same_log ++ entry.Settled path state ∷ []
     → Wrote w (settled_as v k outcome) (set tasks k (with-record t r)) steps log_after running (units + add)
-settle-keeps w v tasks steps log same_log log_after running units add k t u s r path outcome state view untold keeps over at is_r at_s is_path at_u end is_state is_add small same after =
+settle-keeps w v tasks steps log same_log log_after running units add k t u s r path outcome state view untold keeps over no_store at is_r at_s is_path at_u end is_state is_add small same after =
     let not_ended = subst (λ (u : Known). AttemptIsOver u k) (sym view) over in
     let is_over : status_at w k ≡ status.RunningEnded = not_ended.over in
     let known = over-known w tasks steps log k t keeps.is at is_over in
@@ -155,7 +156,7 @@ settle-keeps w v tasks steps log same_log log_after running units add k t u s r 
     let rests : runs state ≡ 0 = rw is_state (attempt-state (λ s. runs s ≡ 0) refl refl w k outcome keeps.sound.fact.inv is_over ends) in
     let out : runs r.status ≡ 0 = ap (λ (r : TaskRecord). runs r.status) is_r ∙ rests in
     let is : put w k (life_of (with-record t r)) (entry.Settled path state) ≡ settled_as w k outcome = rw (is_r, here, is_state, known.life, of_task, untold) refl in
-    let inv = keep-settled w k outcome keeps.sound.fact.inv (record { not_ended = not_ended.not_ended; over = is_over; is = ends }) in
+    let inv = keep-settled w k outcome keeps.sound.fact.inv (record { not_ended = not_ended.not_ended; ready = record { over = is_over; is = ends; kept = subst (λ (u : Known). IsKeptTask u k) (sym view) no_store outcome ends } }) in
     let sum = stored-settled_as w k outcome known.lived none in
     let are = keeps.sound.units_are in
     let fits = fits-sum max_stored add (outcome_units outcome) units is_add (omega arith) small (units-within w tasks steps running units keeps.sound) in
@@ -169,7 +170,7 @@ settle-keeps w v tasks steps log same_log log_after running units add k t u s r 
     is inv within (omega (arith, sum, are, exact)))
 
 -- the same where the end was written as it was before
-pub settle-writes : (w v : Known) (tasks written : List Task) (steps : List MainStep) (log same_log log_after : List Entry) (running units add k : ℕ) (t u s : Task) (r : TaskRecord) (path : Path) (outcome : Outcome) (state : Status) → w ≡ v → w.told ≡ [] → written ≡ tasks → Keeps w tasks steps log running units → AttemptIsOver v k
+pub settle-writes : (w v : Known) (tasks written : List Task) (steps : List MainStep) (log same_log log_after : List Entry) (running units add k : ℕ) (t u s : Task) (r : TaskRecord) (path : Path) (outcome : Outcome) (state : Status) → w ≡ v → w.told ≡ [] → written ≡ tasks → Keeps w tasks steps log running units → AttemptIsOver v k → IsKeptTask v k
     → t ≡ get_or written k t → r ≡ settled-record t.record state
     → s ≡ get_or tasks k s → path ≡ s.record.path
     → u ≡ get_or tasks k u → u.end ≡ Some outcome
@@ -177,16 +178,16 @@ pub settle-writes : (w v : Known) (tasks written : List Task) (steps : List Main
     → add ≡ min (outcome_units outcome) (2 ^ 64 - 1) → add ≤ max_stored - units
     → same_log ≡ log → log_after ≡ same_log ++ entry.Settled path state ∷ []
     → Wrote w (settled_as v k outcome) (set written k (with-record t r)) steps log_after running (units + add)
-settle-writes w v tasks written steps log same_log log_after running units add k t u s r path outcome state view untold as_before keeps over at is_r at_s is_path at_u end is_state is_add small same after =
+settle-writes w v tasks written steps log same_log log_after running units add k t u s r path outcome state view untold as_before keeps over no_store at is_r at_s is_path at_u end is_state is_add small same after =
     subst (λ (ts : List Task). Wrote w (settled_as v k outcome) (set ts k (with-record t r)) steps log_after running (units + add)) (sym as_before)
-    (settle-keeps w v tasks steps log same_log log_after running units add k t u s r path outcome state view untold keeps over (subst (λ (ts : List Task). t ≡ get_or ts k t) as_before at) is_r at_s is_path at_u end is_state is_add small same after)
+    (settle-keeps w v tasks steps log same_log log_after running units add k t u s r path outcome state view untold keeps over no_store (subst (λ (ts : List Task). t ≡ get_or ts k t) as_before at) is_r at_s is_path at_u end is_state is_add small same after)
 
 -- past the limit it is refused
-pub settle-refused : (w v : Known) (tasks : List Task) (steps : List MainStep) (log : List Entry) (running units add k : ℕ) (u : Task) (outcome : Outcome) → w ≡ v → Keeps w tasks steps log running units → AttemptIsOver v k
+pub settle-refused : (w v : Known) (tasks : List Task) (steps : List MainStep) (log : List Entry) (running units add k : ℕ) (u : Task) (outcome : Outcome) → w ≡ v → Keeps w tasks steps log running units → AttemptIsOver v k → IsKeptTask v k
     → u ≡ get_or tasks k u → u.end ≡ Some outcome
     → add ≡ min (outcome_units outcome) (2 ^ 64 - 1) → max_stored - units < add
     → IsRefusedFor (Settles v) StoreLimit
-settle-refused w v tasks steps log running units add k u outcome view keeps over at_u end is_add large =
+settle-refused w v tasks steps log running units add k u outcome view keeps over no_store at_u end is_add large =
     let not_ended = subst (λ (u : Known). AttemptIsOver u k) (sym view) over in
     let is_over : status_at w k ≡ status.RunningEnded = not_ended.over in
     let known = over-known w tasks steps log k u keeps.is at_u is_over in
@@ -198,7 +199,7 @@ settle-refused w v tasks steps log running units add k u outcome view keeps over
     let few = ((passed-none w).0 keeps.sound.fact.within).0 in
     let limit_passed : passed (settled_as w k outcome) ≡ Some limit.Stored = (passed-stored (settled_as w k outcome)).1 (few, omega (arith, sum, are, past)) in
     subst (λ (u : Known). IsRefusedFor (Settles u) StoreLimit) view
-    (settled_as w k outcome, record { task = k; outcome = outcome; over = is_over; is = ends; after = refl }, limit_passed)
+    (settled_as w k outcome, record { task = k; outcome = outcome; ready = record { over = is_over; is = ends; kept = subst (λ (u : Known). IsKeptTask u k) (sym view) no_store outcome ends }; after = refl }, limit_passed)
 
 -- ---- the end
 

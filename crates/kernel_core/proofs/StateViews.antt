@@ -193,18 +193,15 @@ view-put w tasks steps log k t u e is over within at same none =
     rw (calls-set tasks k t u at same, lives-set tasks k u, answers-set (map call_of tasks) (map life_of tasks) k (life_of u) steps open_there over, log-pushed log e)
     (ap (λ (v : Known). put v k (life_of u) e) (sym is))
 
--- a write that moves the count as the task's state moves
-pub wrote : (w v : Known) (tasks : List Task) (steps : List MainStep) (log same_log log_after : List Entry) (running running_after units units_after k : ℕ) (t u : Task) (e : Entry) → Keeps w tasks steps log running units
+-- a write of a task that moves the count as the task's state moves, with entries behind the log that make this of it
+pub wrote-so : (w v : Known) (tasks : List Task) (steps : List MainStep) (log log_after : List Entry) (running running_after units units_after k : ℕ) (t u : Task) → Keeps w tasks steps log running units
     → k < length tasks → t ≡ get_or tasks k t → call_of u ≡ call_of t → outcome_in (life_of t) ≡ None
     → running + runs u.record.status ≡ running_after + runs t.record.status
-    → same_log ≡ log → log_after ≡ same_log ++ e ∷ []
-    → put w k (life_of u) e ≡ v → Inv v → passed v ≡ None → units_after ≡ stored v
+    → with w (set tasks k u) steps log_after ≡ v → v.tree ≡ w.tree → Inv v → passed v ≡ None → units_after ≡ stored v
     → Wrote w v (set tasks k u) steps log_after running_after units_after
-wrote w v tasks steps log same_log log_after running running_after units units_after k t u e keeps within at call none moves same after is inv limits counted =
+wrote-so w v tasks steps log log_after running running_after units units_after k t u keeps within at call none moves view tree inv limits counted =
     let sound = keeps.sound in
     let fact = sound.fact in
-    let logs : log_after ≡ log ++ e ∷ [] = after ∙ ap (λ (l : List Entry). l ++ e ∷ []) same in
-    let view = ap (with w (set tasks k u) steps) logs ∙ view-put w tasks steps log k t u e keeps.is sound.over within at call none ∙ is in
     let read = life-read tasks k t within at in
     let open_there : outcome_in (get_or (map life_of tasks) k no_life) ≡ None = ap outcome_in read ∙ none in
     let count : length (map life_of tasks) ≡ length tasks = length-map tasks life_of in
@@ -214,7 +211,7 @@ wrote w v tasks steps log same_log log_after running running_after units units_a
     let was = sound.running in
     let fact_after : IsFact v = record {
       inv = inv;
-      few_apps = subst (λ (x : Known). length x.tree.0 < 2 ^ 32) is fact.few_apps;
+      few_apps = subst (λ (x : Tree). length x.0 < 2 ^ 32) (sym tree) fact.few_apps;
       within = limits;
     } in
     record {
@@ -226,6 +223,18 @@ wrote w v tasks steps log same_log log_after running running_after units units_a
         units_are = counted ∙ ap stored (sym view);
       };
     }
+
+-- the same with one entry
+pub wrote : (w v : Known) (tasks : List Task) (steps : List MainStep) (log same_log log_after : List Entry) (running running_after units units_after k : ℕ) (t u : Task) (e : Entry) → Keeps w tasks steps log running units
+    → k < length tasks → t ≡ get_or tasks k t → call_of u ≡ call_of t → outcome_in (life_of t) ≡ None
+    → running + runs u.record.status ≡ running_after + runs t.record.status
+    → same_log ≡ log → log_after ≡ same_log ++ e ∷ []
+    → put w k (life_of u) e ≡ v → Inv v → passed v ≡ None → units_after ≡ stored v
+    → Wrote w v (set tasks k u) steps log_after running_after units_after
+wrote w v tasks steps log same_log log_after running running_after units units_after k t u e keeps within at call none moves same after is inv limits counted =
+    let logs : log_after ≡ log ++ e ∷ [] = after ∙ ap (λ (l : List Entry). l ++ e ∷ []) same in
+    let view = ap (with w (set tasks k u) steps) logs ∙ view-put w tasks steps log k t u e keeps.is keeps.sound.over within at call none ∙ is in
+    wrote-so w v tasks steps log log_after running running_after units units_after k t u keeps within at call none moves view (ap (λ (x : Known). x.tree) (sym is)) inv limits counted
 
 -- ---- an act that leaves the tasks and main's steps
 

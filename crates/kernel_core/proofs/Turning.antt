@@ -5,7 +5,7 @@ use Rattle.kernel_model.specs.declared.answers.Refusal.{Refusal}
 use Rattle.kernel_model.specs.Acts.{refused, retold}
 use Rattle.kernel_model.specs.Known.{Known}
 use Rattle.kernel_model.specs.Limits.{IsRefusedFor}
-use Rattle.kernel_model.specs.Turns.{Step, CarriesOut, Settles, EndTurn, script_step}
+use Rattle.kernel_model.specs.Turns.{Step, CarriesOut, Stores, Settles, EndTurn, script_step}
 use Rattle.kernel_model.proofs.Retelling.{script-retold, done-retold}
 use Rattle.agenda_model.specs.AgendaViews.{AgendaView}
 use Rattle.agenda_model.specs.Agendas.{Serves}
@@ -42,6 +42,9 @@ script-undone g h s v r same told cause =
 
 pub callback-refused-so : (w x u v : Known) (r : Refusal) → w ≡ x → IsUndone w u (CarriesOut w) r → v ≡ refused u r → IsRefused x v (CarriesOut x) r
 callback-refused-so w x u v r is undone after = subst (λ (y : Known). IsRefused y v (CarriesOut y) r) is (turn-refused w u v (CarriesOut w) r undone after)
+
+pub store-refused-so : (w x u v : Known) (r : Refusal) → w ≡ x → IsUndone w u (Stores w) r → v ≡ refused u r → IsRefused x v (Stores x) r
+store-refused-so w x u v r is undone after = subst (λ (y : Known). IsRefused y v (Stores y) r) is (turn-refused w u v (Stores w) r undone after)
 
 pub settle-refused-so : (w x u v : Known) (r : Refusal) → w ≡ x → IsUndone w u (Settles w) r → v ≡ refused u r → IsRefused x v (Settles x) r
 settle-refused-so w x u v r is undone after = subst (λ (y : Known). IsRefused y v (Settles y) r) is (turn-refused w u v (Settles w) r undone after)

@@ -21,11 +21,11 @@ use Rattle.compiled_script.specs.Programs.{IsPlainApp}
 use Rattle.kernel_model.specs.declared.answers.Refusal.{Refusal}
 use Rattle.kernel_model.specs.declared.answers.Refusal.TheVariants.{NoMemory, TaskLimit, StoreLimit}
 use Rattle.kernel_model.specs.Jobs.{JobView, DoneView}
-use Rattle.kernel_model.specs.Known.{Known, call_at, path_at, life_at, status_at, known, begin_at, apps_in, has_ended}
+use Rattle.kernel_model.specs.Known.{Known, call_at, path_at, life_at, status_at, known, begin_at, saved_at, apps_in, has_ended}
 use Rattle.kernel_model.specs.Invariants.{HasRun, IsReached, Inv}
 use Rattle.kernel_model.specs.Acts.{settled_as, launched}
 use Rattle.kernel_model.specs.Limits.{IsRefusedFor}
-use Rattle.kernel_model.specs.Turns.{IsCallback, IsJoinDone, carried_out, CarriesOut, begins, ends, Settles, IsEndOf, IsRunning, body_end, job_of}
+use Rattle.kernel_model.specs.Turns.{IsCallback, IsJoinDone, attempted as attempted_with, carried_out, CarriesOut, begins, ends, Settles, IsEndOf, IsRunning, body_end, job_of}
 use Rattle.kernel_model.specs.Conditions.{CanFinish}
 use Rattle.kernel_model.proofs.Places.{run-within}
 use Rattle.kernel_core.specs.declared.beginning.Beginning.{Beginning}
@@ -33,6 +33,7 @@ use Rattle.kernel_core.specs.declared.beginning.Beginning.TheVariants as beginni
 use Rattle.kernel_core.specs.declared.task.Task.{Task}
 use Rattle.kernel_core.specs.Jobs.{FitsApps}
 use Rattle.kernel_core.specs.Joins.{JoinEnds}
+use Rattle.kernel_core.specs.Memo.{IsKeptTask}
 use Rattle.kernel_core.specs.Views.{IsFact}
 use Rattle.kernel_core.specs.Turned.{NoJoinDone, beginning_of, IsAttempt, BeginsWith}
 use Rattle.kernel_core.proofs.RunReadings.{Shows, begun-within}
@@ -44,10 +45,10 @@ fact-is v w e fact = subst IsFact e fact
 
 -- by its app, and whether its path has room
 begins_so : (w : Known) (k : ℕ) (app : AppDef) (values : List Value) (join room : Bool) → begin_at w k ≡ (if join then begin_join room app values else Attempts app values)
-    → BeginsWith w k (if join then (if room then beginning.Joins values else beginning.Fails x.DepthError) else beginning.Attempts)
+    → BeginsWith w k (if join then (if room then beginning.Joins values else beginning.Fails x.DepthError) else beginning.Attempts values)
 begins_so w k app values true true is = record { app = app; begins = is }
 begins_so w k app values true false is = is
-begins_so w k app values false room is = record { app = app; values = values; begins = is }
+begins_so w k app values false room is = record { app = app; begins = is }
 
 begins_with : (w : Known) (k : ℕ) (app : Option AppDef) (r : Readiness) → begin_at w k ≡ begin_ready (path_at w k) app r → BeginsWith w k (beginning_of app (has_room (path_at w k)) r)
 begins_with w k app (readiness.Settles exception) is = is
@@ -76,8 +77,8 @@ end-refused w k r is h = refused-more (JoinEnds w k) (CarriesOut w) (λ v after.
 pub fails-so : (w v : Known) (k : ℕ) (exception : Exception) → begin_at w k ≡ Fails exception → v ≡ settled_as w k (o.Failed exception) → v ≡ carried_out w k (begin_at w k)
 fails-so w v k exception begin after = after ∙ sym (ap (carried_out w k) begin)
 
-pub launches-so : (w v : Known) (k : ℕ) → IsAttempt w k → v ≡ launched w k → v ≡ carried_out w k (begin_at w k)
-launches-so w v k a after = after ∙ sym (ap (carried_out w k) a.begins)
+pub launches-so : (w v : Known) (k : ℕ) (values : List Value) → IsAttempt w k values → saved_at w k ≡ None → v ≡ launched w k → v ≡ carried_out w k (begin_at w k)
+launches-so w v k values a none after = after ∙ sym (ap (attempted_with w k) none) ∙ sym (ap (carried_out w k) a.begins)
 
 -- ---- joins that are done
 
@@ -143,9 +144,9 @@ can-finish w done k inv going end runs =
 
 -- ---- settling
 
-settles_with : (w v : Known) (k : ℕ) (end : Option Outcome) → (life_at w k).end ≡ end → IsSome end → status_at w k ≡ status.RunningEnded → ((outcome : Outcome) → (life_at w k).end ≡ Some outcome → v ≡ settled_as w k outcome) → Settles w v
-settles_with w v k None e some is after = absurd (cc)
-settles_with w v k (Some outcome) e some is after = record { task = k; outcome = outcome; over = is; is = e; after = after outcome e }
+settles_with : (w v : Known) (k : ℕ) (end : Option Outcome) → (life_at w k).end ≡ end → IsSome end → status_at w k ≡ status.RunningEnded → IsKeptTask w k → ((outcome : Outcome) → (life_at w k).end ≡ Some outcome → v ≡ settled_as w k outcome) → Settles w v
+settles_with w v k None e some is kept after = absurd (cc)
+settles_with w v k (Some outcome) e some is kept after = record { task = k; outcome = outcome; ready = record { over = is; is = e; kept = kept outcome e }; after = after outcome e }
 
 -- an attempt that is over has an end
 over_end : (w : Known) (k : ℕ) → Inv w → status_at w k ≡ status.RunningEnded → IsSome (life_at w k).end
@@ -154,5 +155,5 @@ over_end w k inv is =
     let reached : IsReached (life_at w k) status.RunningEnded = subst (IsReached (life_at w k)) is (inv.holds.tracks.lived k within).reached in
     reached.0
 
-pub settles-one : (w v : Known) (k : ℕ) → Inv w → status_at w k ≡ status.RunningEnded → ((outcome : Outcome) → (life_at w k).end ≡ Some outcome → v ≡ settled_as w k outcome) → Settles w v
-settles-one w v k inv is after = settles_with w v k (life_at w k).end refl (over_end w k inv is) is after
+pub settles-one : (w v : Known) (k : ℕ) → Inv w → status_at w k ≡ status.RunningEnded → IsKeptTask w k → ((outcome : Outcome) → (life_at w k).end ≡ Some outcome → v ≡ settled_as w k outcome) → Settles w v
+settles-one w v k inv is kept after = settles_with w v k (life_at w k).end refl (over_end w k inv is) is kept after

@@ -10,8 +10,8 @@ use Rattle.kernel_model.specs.Invariants.{Inv}
 use Rattle.kernel_model.specs.Jobs.{JobView, DoneView}
 use Rattle.kernel_model.specs.Known.{Known}
 use Rattle.kernel_model.specs.Telling.{HasToldBy, HasTold}
-use Rattle.kernel_model.specs.Turns.{script_step, CallbackTurn, FetchTurn, DeliverTurn, SettleTurn, EndTurn, Extends}
-use Rattle.kernel_model.proofs.Telling.{script-told, callback-told, fetch-told, deliver-told, settle-told, end-told, nothing-told, refused-told, some-told}
+use Rattle.kernel_model.specs.Turns.{script_step, CallbackTurn, FetchTurn, DeliverTurn, StoreTurn, SettleTurn, EndTurn, Extends}
+use Rattle.kernel_model.proofs.Telling.{script-told, callback-told, fetch-told, deliver-told, store-told, settle-told, end-told, nothing-told, refused-told, some-told}
 use Rattle.kernel_core.specs.Refused.{IsToldAtRefusal, IsRefused}
 
 -- ---- turns that are taken
@@ -30,6 +30,10 @@ fetch-tells w v None none did = nothing-told w v none did.1
 pub deliver-tells : (w v : Known) (done : DoneView) (answer : Delivered) → w.refusal ≡ None → DeliverTurn w done answer v → HasTold w v
 deliver-tells w v done Taken none did = deliver-told w done v none did
 deliver-tells w v done Stale none did = nothing-told w v none did.1
+
+pub store-tells : (w v : Known) (did : Bool) → w.refusal ≡ None → StoreTurn w did v → HasTold w v
+store-tells w v true none did = store-told w v none did
+store-tells w v false none did = nothing-told w v none did.1
 
 pub settle-tells : (w v : Known) (did : Bool) → Inv w → w.refusal ≡ None → SettleTurn w did v → HasTold w v
 settle-tells w v true inv none did = settle-told w v inv none did

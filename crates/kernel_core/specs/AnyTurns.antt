@@ -7,7 +7,7 @@ use Rattle.flow_meaning.specs.Evaluations.{evaluation_in}
 use Rattle.history_laws.specs.Reads.{lost, has_end}
 use Rattle.history_laws.specs.Tables.{table}
 use Rattle.history_laws.specs.Legal.{IsLegal, IsComplete}
-use Rattle.stored_units.specs.Totals.{IsWithinLimits}
+use Rattle.kernel_model.specs.RunTotals.{IsWithinRun}
 use Rattle.kernel_model.specs.declared.answers.Refusal.{Refusal}
 use Rattle.kernel_model.specs.declared.answers.Refusal.TheVariants.{NoMemory}
 use Rattle.kernel_model.specs.declared.answers.Delivered.{Delivered}
@@ -15,7 +15,7 @@ use Rattle.kernel_model.specs.Acts.{refused}
 use Rattle.kernel_model.specs.Known.{Known, has_ended, no_retries, path_at, settled_outcome, apps_in}
 use Rattle.kernel_model.specs.Evaluated.{evaluated}
 use Rattle.kernel_model.specs.Jobs.{JobView}
-use Rattle.kernel_model.specs.Turns.{IsEndOf, script_step, CarriesOut, CallbackTurn, FetchTurn, DeliverTurn, SettleTurn, EndTurn, Settles}
+use Rattle.kernel_model.specs.Turns.{IsEndOf, script_step, CarriesOut, CallbackTurn, FetchTurn, DeliverTurn, StoreTurn, SettleTurn, EndTurn, Stores, Settles}
 use Rattle.kernel_core.specs.declared.any_turns.Turn.{Turn}
 use Rattle.kernel_core.specs.declared.any_turns.Turn.TheVariants as turn
 use Rattle.kernel_core.specs.Refused.{IsRefused}
@@ -27,7 +27,7 @@ pub record Holds (w : Known) : Type 0 where
   pub outcomes : (k : ℕ) (outcome : Outcome) → settled_outcome w k ≡ Some outcome → outcome_at (seq w.tree.0 w.tree.1 (lost w.past)).tasks (path_at w k) ≡ Some outcome
   pub complete : has_end w.past ≡ true → IsComplete w.past
   pub evaluation : has_end w.past ≡ true → evaluated w ≡ evaluation_in (apps_in w) (seq w.tree.0 w.tree.1 (lost w.past))
-  pub within : has_end w.past ≡ true → IsWithinLimits (seq w.tree.0 w.tree.1 (lost w.past))
+  pub within : has_end w.past ≡ true → IsWithinRun (apps_in w) (seq w.tree.0 w.tree.1 (lost w.past))
 
 -- an end that is delivered is what its job's body gives
 abbrev pub IsHonest : List AppDef → Turn → Type 0
@@ -40,6 +40,7 @@ Does w turn.Script v = v ≡ (script_step w).1
 Does w turn.Callback v = (did : Bool) × CallbackTurn w did v
 Does w turn.Fetch v = (job : Option JobView) × FetchTurn w job v
 Does w (turn.Deliver done) v = (answer : Delivered) × DeliverTurn w done answer v
+Does w turn.Store v = (did : Bool) × StoreTurn w did v
 Does w turn.Settle v = (did : Bool) × SettleTurn w did v
 Does w turn.End v = (did : Bool) × EndTurn w did v
 
@@ -47,6 +48,7 @@ Does w turn.End v = (did : Bool) × EndTurn w did v
 abbrev pub IsTurnRefused : Known → Turn → Known → Refusal → Type 0
 IsTurnRefused w turn.Script v refusal = IsRefused w v (λ u. u ≡ (script_step w).1) refusal
 IsTurnRefused w turn.Callback v refusal = IsRefused w v (CarriesOut w) refusal
+IsTurnRefused w turn.Store v refusal = IsRefused w v (Stores w) refusal
 IsTurnRefused w turn.Settle v refusal = IsRefused w v (Settles w) refusal
 IsTurnRefused w _ v refusal = (refusal ≡ NoMemory) × (v ≡ refused w NoMemory)
 

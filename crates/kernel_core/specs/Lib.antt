@@ -1,6 +1,7 @@
 pub mod Tasks
 pub mod Jobs
 pub mod Joins
+pub mod Memo
 pub mod Views
 pub mod Settlements
 pub mod Turned

@@ -53,12 +53,11 @@ NoJoinDone w = (k : ℕ) → IsJoinDone w k → ⊥
 abbrev pub beginning_of : Option AppDef → Bool → Readiness → Beginning
 beginning_of app room (readiness.Settles exception) = beginning.Fails exception
 beginning_of None room (readiness.Runs values) = beginning.Fails x.TypeError
-beginning_of (Some app) room (readiness.Runs values) = if app.join then (if room then beginning.Joins values else beginning.Fails x.DepthError) else beginning.Attempts
+beginning_of (Some app) room (readiness.Runs values) = if app.join then (if room then beginning.Joins values else beginning.Fails x.DepthError) else beginning.Attempts values
 
--- an attempt of the task is launched
-pub record IsAttempt (w : Known) (k : ℕ) : Type 0 where
+-- it gets its outcome by an attempt on these values
+pub record IsAttempt (w : Known) (k : ℕ) (values : List Value) : Type 0 where
   pub app : AppDef
-  pub values : List Value
   pub begins : begin_at w k ≡ Attempts app values
 
 -- its body runs on these values
@@ -68,5 +67,5 @@ pub record IsJoin (w : Known) (k : ℕ) (values : List Value) : Type 0 where
 
 abbrev pub BeginsWith : Known → ℕ → Beginning → Type 0
 BeginsWith w k (beginning.Fails exception) = begin_at w k ≡ Fails exception
-BeginsWith w k beginning.Attempts = IsAttempt w k
+BeginsWith w k (beginning.Attempts values) = IsAttempt w k values
 BeginsWith w k (beginning.Joins values) = IsJoin w k values

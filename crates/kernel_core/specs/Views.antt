@@ -5,6 +5,7 @@ use Rattle.script_tree.specs.Grammar.{Tree}
 use Rattle.event_log.specs.declared.entry.Entry.{Entry}
 use Rattle.dependency_graph.specs.declared.monitor.Settlement.{Settlement}
 use Rattle.flow_meaning.specs.Inputs.{Path}
+use Rattle.memo_table.specs.Table.{MemoView}
 use Rattle.kernel_model.specs.declared.answers.Refusal.{Refusal}
 use Rattle.call_rules.specs.Calls.{Call}
 use Rattle.history_laws.specs.Reads.{submits}
@@ -16,12 +17,13 @@ use Rattle.kernel_core.specs.declared.run_state.MainStep.{MainStep}
 use Rattle.kernel_core.specs.Tasks.{call_of, life_of, answer_of, acts_of, AreOver}
 use Rattle.agenda_model.specs.Agendas.{running_in}
 
-abbrev pub known_with : Tree → List Task → List MainStep → Bool → Option Ending → List Entry → Option Refusal → List (List Settlement) → Known
-known_with tree tasks steps arrived ending log refusal told = record {
+abbrev pub known_with : Tree → List Task → List MainStep → Bool → Option Ending → MemoView → List Entry → Option Refusal → List (List Settlement) → Known
+known_with tree tasks steps arrived ending memo log refusal told = record {
   tree = tree;
   answers = map (answer_of (map call_of tasks) (map life_of tasks)) steps;
   arrived = arrived;
   ending = ending;
+  memo = memo;
   calls = map call_of tasks;
   lives = map life_of tasks;
   acts = flat_map (acts_of (map call_of tasks)) steps;

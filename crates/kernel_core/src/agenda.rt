@@ -17,6 +17,8 @@ pub struct Agenda<M: Monitor> {
     pub(crate) launched: VecDeque<usize>,
     // The tasks whose attempts are over. It has a place for each running attempt.
     pub(crate) over: VecDeque<usize>,
+    // How many of the first of these need no storing.
+    pub(crate) kept: usize,
     // How many tasks aren't settled.
     pub(crate) unsettled: usize,
 }
@@ -32,13 +34,14 @@ impl<M: Monitor> Model for Agenda<M> {
 
     ghost coded = { Prim.hlevel (codes, value.the_row.coded) };
 
-    ghost view = { λ a. record { graph = a.graph; launched = a.launched.items; over = a.over.items; spare = deque_capacity a.over - deque_len a.over; unsettled = a.unsettled } };
+    ghost view = { λ a. record { graph = a.graph; launched = a.launched.items; over = a.over.items; kept = a.kept; spare = deque_capacity a.over - deque_len a.over; unsettled = a.unsettled } };
 }
 
 impl<M: Monitor> Agenda<M> {
     /// The agenda of a run before any turn.
     pub fn new(alloc: Global, monitors: Vec<M>) -> Agenda<M>
         ensures serves { ServesTasks result [] [] None }
+        ensures kept { result.kept ≡ 0 }
         ensures told { result.graph.told ≡ map M.told monitors.items }
     {
         let mut graph = Graph::new(alloc);
@@ -47,6 +50,7 @@ impl<M: Monitor> Agenda<M> {
             graph,
             launched: VecDeque::new(alloc),
             over: VecDeque::new(alloc),
+            kept: 0,
             unsettled: 0,
         }
     }

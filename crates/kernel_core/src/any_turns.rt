@@ -20,6 +20,7 @@ pub enum Turn {
     Callback,
     Fetch,
     Deliver(Done),
+    Store,
     Settle,
     End,
 }
@@ -58,6 +59,9 @@ pub fn take_turn<M: Monitor>(kernel: &mut Kernel<M>, turn: Turn) -> Result<(), R
         }
         Turn::Deliver(done) => {
             kernel.deliver(done);
+        }
+        Turn::Store => {
+            kernel.store_turn()?;
         }
         Turn::Settle => {
             kernel.settle_turn()?;

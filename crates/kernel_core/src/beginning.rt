@@ -13,8 +13,8 @@ use script_tree::tree::AppDef;
 pub enum Beginning {
     /// It is settled at once by this exception.
     Fails(Exception),
-    /// An attempt of it is launched.
-    Attempts,
+    /// It takes its value from the memo, or an attempt of it is launched, on these values.
+    Attempts(Items),
     /// Its body runs on these values.
     Joins(Items),
 }
@@ -30,7 +30,7 @@ impl Beginning {
         };
         match app {
             None => Beginning::Fails(Exception::TypeError),
-            Some(app) if !app.join => Beginning::Attempts,
+            Some(app) if !app.join => Beginning::Attempts(values),
             Some(_) if room => Beginning::Joins(values),
             Some(_) => Beginning::Fails(Exception::DepthError),
         }

@@ -3,20 +3,22 @@
 ghost use Rattle.std.specs.Prelude.{◌≡◌, Some, None, false, IfOk, IfErr, OnOk, OnErr};
 ghost use Rattle.flow_base.specs.declared.outcome.Outcome.TheVariants as o;
 ghost use Rattle.flow_meaning.specs.declared.walk.Request.TheVariants as request;
-ghost use Rattle.kernel_model.specs.Acts.{call_of, called, future_of, launched, settled_as};
+ghost use Rattle.task_record.specs.declared.status.Status.TheVariants as status;
+ghost use Rattle.kernel_model.specs.Acts.{call_of, called, future_of, hit, launched, settled_as, settled_in};
 ghost use Rattle.kernel_model.specs.Conditions.{CanFail, CanLaunch, MainAsks};
-ghost use Rattle.kernel_model.specs.Known.{begin_at, has_ended};
+ghost use Rattle.kernel_model.specs.Known.{begin_at, saved_at, has_ended};
 ghost use Rattle.kernel_model.specs.Limits.{IsRefusedFor};
-ghost use Rattle.kernel_model.specs.Turns.{CallbackTurn, CarriesOut, IsCallback, carried_out};
+ghost use Rattle.kernel_model.specs.Turns.{CallbackTurn, CarriesOut, IsCallback, attempted, carried_out};
 ghost use Rattle.agenda_model.specs.Agendas.{Serves, seen};
 ghost use Rattle.kernel_core.specs.Joins.{CanRunJoin, IsOver, JoinEnds};
+ghost use Rattle.kernel_core.specs.Memo.{MayAttempt, MayRecall};
 ghost use Rattle.kernel_core.specs.Refused.{IsUndone};
 
 use crate::agenda::Agenda;
 use crate::beginning::Beginning;
 use crate::run_state::RunState;
 use dependency_graph::{Callback, Monitor};
-use flow_base::{Exception, Items, Names, Value};
+use flow_base::{Exception, Items, Names, Outcome, Value};
 use kernel_model::Refusal;
 
 impl<M: Monitor> Agenda<M> {
@@ -41,7 +43,7 @@ impl<M: Monitor> Agenda<M> {
         Ok(true)
     }
 
-    // A task whose inputs are all settled fails at once, is launched, or its body runs.
+    // A task whose inputs are all settled fails at once, is recalled or launched, or its body runs.
     fn begin(&mut self, state: &mut RunState, k: usize) -> Result<(), Refusal>
         requires going { has_ended state.old ≡ false }
         requires callback { IsCallback state.old k }
@@ -52,7 +54,7 @@ impl<M: Monitor> Agenda<M> {
     {
         match state.beginning(k)? {
             Beginning::Fails(exception) => self.fail(state, k, exception),
-            Beginning::Attempts => self.launch(state, k),
+            Beginning::Attempts(values) => self.attempt(state, k, values),
             Beginning::Joins(values) => self.run_join(state, k, values),
         }
     }
@@ -66,6 +68,33 @@ impl<M: Monitor> Agenda<M> {
     {
         state.facts();
         state.fail(&mut self.graph, k, exception)?;
+        self.unsettled -= 1;
+        Ok(())
+    }
+
+    // It takes its value from the memo, or an attempt of it is launched on these values.
+    fn attempt(&mut self, state: &mut RunState, k: usize, values: Items) -> Result<(), Refusal>
+        requires may { MayAttempt state.old k values }
+        requires serves { Serves self.old state.old (Some k) }
+        ensures ok { OnOk result (seen self.new state.new ≡ attempted (seen self.old state.old) k (saved_at state.old k)) }
+        ensures serves { OnOk result (Serves self.new state.new None) }
+        ensures err { IfErr result (IsUndone (seen self.old state.old) (seen self.new state.new) (λ v. v ≡ attempted (seen self.old state.old) k (saved_at state.old k))) }
+    {
+        match state.recollection(k, values)? {
+            Some(outcome) => self.recall(state, k, outcome),
+            None => self.launch(state, k),
+        }
+    }
+
+    fn recall(&mut self, state: &mut RunState, k: usize, outcome: Outcome) -> Result<(), Refusal>
+        requires may { MayRecall state.old k outcome }
+        requires serves { Serves self.old state.old (Some k) }
+        ensures ok { OnOk result (seen self.new state.new ≡ settled_in (hit (seen self.old state.old) k) k status.MemoDone outcome) }
+        ensures serves { OnOk result (Serves self.new state.new None) }
+        ensures err { IfErr result (IsUndone (seen self.old state.old) (seen self.new state.new) (λ v. v ≡ settled_in (hit (seen self.old state.old) k) k status.MemoDone outcome)) }
+    {
+        state.facts();
+        state.recall(&mut self.graph, k, outcome)?;
         self.unsettled -= 1;
         Ok(())
     }

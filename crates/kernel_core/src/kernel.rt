@@ -12,6 +12,7 @@ ghost use Rattle.kernel_core.specs.MainWalks.{IsReady, left_in, rest_in};
 use crate::agenda::Agenda;
 use crate::main_walk::MainWalk;
 use crate::run_state::RunState;
+use app_texts::AppTexts;
 use compiled_script::CompiledScript;
 use dependency_graph::Monitor;
 use event_log::Entry;
@@ -118,6 +119,9 @@ fn begin(alloc: Global, script: Arc<Checked>) -> Result<(RunState, MainWalk), Al
     ensures ready { IfOk result (λ both. IsReady both.1) }
 {
     let script = CompiledScript::of(alloc, script)?;
+    let texts = AppTexts::of(alloc, script.script())?;
     let main = MainWalk::new(alloc, &script)?;
-    Ok((RunState::new(alloc, script), main))
+    // Some text has the script, and it breaks no rule: no two apps have one text.
+    let _ = script.script().apps();
+    Ok((RunState::new(alloc, script, texts), main))
 }

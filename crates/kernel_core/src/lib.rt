@@ -13,6 +13,7 @@ mod ledger;
 mod main_acts;
 mod main_turn;
 mod main_walk;
+mod memo;
 mod parts;
 mod reading;
 mod run_state;

@@ -1,10 +1,12 @@
 //! The state of a run: its tasks, what main did, and the history.
 
-ghost use Rattle.std.specs.Prelude.{◌≡◌, ◌<◌, ◌^◌, [], ◌∷◌, length, None, is_some, MatchOption};
+ghost use Rattle.std.specs.Prelude.{◌≡◌, ◌<◌, ◌^◌, [], ◌∷◌, length, map, None, is_some, MatchOption};
 ghost use Rattle.std.specs.Option.{option_copied};
+ghost use Rattle.script_tree.specs.Canonical as canonical;
 ghost use Rattle.history_laws.specs.Reads.{history_of, has_end};
 ghost use Rattle.kernel_model.specs.Known.{has_ended, known, path_at, settled_outcome};
 ghost use Rattle.kernel_model.specs.Acts.{started_with, refused};
+ghost use Rattle.kernel_model.specs.Invariants.{TextsDiffer};
 ghost use Rattle.kernel_model.specs.Work.{HasRoom};
 ghost use Rattle.kernel_core.specs.Tasks.{tasks_by};
 ghost use Rattle.agenda_model.specs.Agendas.{running_in};
@@ -13,11 +15,13 @@ ghost use Rattle.kernel_core.specs.Views.{IsFact};
 
 use crate::reading::Settled;
 use crate::task::Task;
+use app_texts::AppTexts;
 use compiled_script::CompiledScript;
 use dependency_graph::PathTable;
 use event_log::Entry;
 use flow_base::{Ending, Outcome, Path, Value};
 use kernel_model::Refusal;
+use memo_table::Memo;
 use std::alloc::{AllocError, Global};
 use std::marker::Model;
 
@@ -40,6 +44,8 @@ pub enum MainStep {
 pub struct RunState {
     pub(crate) alloc: Global,
     pub(crate) script: CompiledScript,
+    // The texts of its apps.
+    pub(crate) texts: AppTexts,
     pub(crate) tasks: Vec<Task>,
     // The paths of the tasks.
     pub(crate) places: PathTable,
@@ -51,6 +57,8 @@ pub struct RunState {
     // An earlier turn came to the wait at which main stands.
     pub(crate) arrived: bool,
     pub(crate) ending: Option<Ending>,
+    // The values of calls of cached apps.
+    pub(crate) memo: Memo,
     // The units that are stored so far.
     pub(crate) stored: u64,
     pub(crate) log: Vec<Entry>,
@@ -58,12 +66,13 @@ pub struct RunState {
 }
 
 impl Model for RunState {
-    ghost use Rattle.std.specs.Prelude.{◌≤◌, ◌+◌, [], vec_len, vec_capacity};
+    ghost use Rattle.std.specs.Prelude.{◌≡◌, ◌≤◌, ◌+◌, [], map, vec_len, vec_capacity};
     ghost use Rattle.std.specs.Coded.{codes};
     ghost use Rattle.flow_base.specs.contracts.value.Value as value;
     ghost use Rattle.script_tree.specs.contracts.tree.Statement as statement;
     ghost use Rattle.script_tree.specs.contracts.tree.Expr as expr;
     ghost use Rattle.script_tree.specs.contracts.tree.CallExpr as call;
+    ghost use Rattle.script_tree.specs.Canonical as canonical;
     ghost use Rattle.kernel_model.specs.Known.{Known};
     ghost use Rattle.kernel_core.specs.Views.{known_with, IsSound, IsIndexed};
 
@@ -71,23 +80,27 @@ impl Model for RunState {
 
     ghost coded = { Prim.hlevel (codes, value.the_row.coded, statement.the_row.coded, expr.the_row.coded, call.the_row.coded) };
 
-    ghost view = { λ s. known_with s.script.tree s.tasks.items s.steps.items s.arrived s.ending s.log.items s.refusal [] };
+    ghost view = { λ s. known_with s.script.tree s.tasks.items s.steps.items s.arrived s.ending s.memo s.log.items s.refusal [] };
 
     ghost invariant = { λ s.
-        IsSound (known_with s.script.tree s.tasks.items s.steps.items s.arrived s.ending s.log.items s.refusal []) s.tasks.items s.steps.items s.running s.stored
-        × IsIndexed (known_with s.script.tree s.tasks.items s.steps.items s.arrived s.ending s.log.items s.refusal []) s.places s.mains
+        IsSound (known_with s.script.tree s.tasks.items s.steps.items s.arrived s.ending s.memo s.log.items s.refusal []) s.tasks.items s.steps.items s.running s.stored
+        × IsIndexed (known_with s.script.tree s.tasks.items s.steps.items s.arrived s.ending s.memo s.log.items s.refusal []) s.places s.mains
+        × (s.texts ≡ map canonical.app s.script.tree.0)
         × (vec_len s.log + s.running ≤ vec_capacity s.log) };
 }
 
 impl RunState {
     /// The state of a run before any turn.
-    pub fn new(alloc: Global, script: CompiledScript) -> RunState
-        requires { length script.tree.0 < 2 ^ 32 }
+    pub fn new(alloc: Global, script: CompiledScript, texts: AppTexts) -> RunState
+        requires few { length script.tree.0 < 2 ^ 32 }
+        requires texts { texts ≡ map canonical.app script.tree.0 }
+        requires differ { TextsDiffer script.tree }
         ensures { result ≡ started_with script.tree [] }
     {
         RunState {
             alloc,
             script,
+            texts,
             tasks: Vec::new(alloc),
             places: PathTable::new(alloc),
             mains: 0,
@@ -95,6 +108,7 @@ impl RunState {
             steps: Vec::new(alloc),
             arrived: false,
             ending: None,
+            memo: Memo::new(alloc),
             stored: 0,
             log: Vec::new(alloc),
             refusal: None,

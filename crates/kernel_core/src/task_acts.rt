@@ -11,6 +11,7 @@ ghost use Rattle.kernel_model.specs.Acts.{launched, started, finished, settled_a
 ghost use Rattle.kernel_model.specs.Conditions.{CanLaunch, CanStart, CanFinish, CanFail, CanEnd};
 ghost use Rattle.kernel_model.specs.Limits.{IsRefusedFor};
 ghost use Rattle.kernel_model.specs.Turns.{Settles};
+ghost use Rattle.kernel_core.specs.Memo.{IsKeptTask};
 ghost use Rattle.kernel_core.specs.Settlements.{MayTell};
 ghost use Rattle.kernel_core.specs.Turned.{AttemptIsOver};
 
@@ -111,6 +112,7 @@ impl RunState {
     /// The end of its attempt settles the task.
     pub fn settle<M: Monitor>(&mut self, graph: &mut Graph<M>, k: usize) -> Result<(), Refusal>
         requires over { AttemptIsOver self.old k }
+        requires kept { IsKeptTask self.old k }
         requires opened { IsOpenTask graph.old (path_at self.old k) }
         ensures ok { OnOk result ((outcome : OutcomeOf) → (life_at self.old k).end ≡ Some outcome → self.new ≡ settled_as self.old k outcome) }
         ensures settled { OnOk result ((outcome : OutcomeOf) → (life_at self.old k).end ≡ Some outcome → graph.new ≡ with_settlement (settlement_of self.old k outcome) graph.old) }

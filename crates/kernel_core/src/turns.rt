@@ -5,7 +5,7 @@ ghost use Rattle.kernel_model.specs.declared.answers.Refusal.TheVariants.{NoMemo
 ghost use Rattle.kernel_model.specs.Known.{has_ended, apps_in};
 ghost use Rattle.kernel_model.specs.Acts.{refused};
 ghost use Rattle.kernel_model.specs.Limits.{IsRefusedFor};
-ghost use Rattle.kernel_model.specs.Turns.{script_step, CarriesOut, CallbackTurn, FetchTurn, DeliverTurn, SettleTurn, EndTurn, Settles, IsEndOf};
+ghost use Rattle.kernel_model.specs.Turns.{script_step, CarriesOut, CallbackTurn, FetchTurn, DeliverTurn, StoreTurn, SettleTurn, EndTurn, Stores, Settles, IsEndOf};
 ghost use Rattle.kernel_core.specs.Jobs.{FitsApps};
 ghost use Rattle.kernel_core.specs.Refused.{IsRefused};
 
@@ -40,8 +40,8 @@ impl<M: Monitor> Kernel<M> {
         }
     }
 
-    /// Carries out a callback. A task whose inputs are all settled is launched, or settled by one of the
-    /// first three rules of a call or for the length of its path, or the body of its join runs, and the calls
+    /// Carries out a callback. A task whose inputs are all settled is launched, or settled by what the memo has of
+    /// it, by one of the first three rules of a call or for the length of its path, or the body of its join runs, and the calls
     /// of that are submitted. A join that waits for nothing any more is settled by the rule of joins. False
     /// exactly where no callback is ready. It is refused where the calls would be too many, or where calls
     /// or a value would pass the stored units. Where memory is wanting some monitors may have been told.
@@ -88,8 +88,25 @@ impl<M: Monitor> Kernel<M> {
         agenda.deliver(state, done)
     }
 
-    /// Settles a task whose attempt is over. False exactly where there is none. It is refused where the
-    /// value and files would pass the stored units.
+    /// Stores the value of a cached app's call whose attempt is over, by its key. False exactly where there is none
+    /// that isn't stored. It is refused where the key, the value and its files would pass the stored units.
+    pub fn store_turn(&mut self) -> Result<bool, Refusal>
+        requires { has_ended self.old ≡ false }
+        ensures turn { IfOk result (λ did. StoreTurn self.old did self.new) }
+        ensures refused { IfErr result (IsRefused self.old self.new (Stores self.old)) }
+    {
+        let Kernel { state, agenda, .. } = self;
+        match agenda.store_one(state) {
+            Ok(did) => Ok(did),
+            Err(refusal) => {
+                state.refuse(refusal);
+                Err(refusal)
+            }
+        }
+    }
+
+    /// Settles a task whose attempt is over; the value of a cached app's call only once it is stored. False exactly
+    /// where there is none. It is refused where the value and files would pass the stored units.
     pub fn settle_turn(&mut self) -> Result<bool, Refusal>
         requires { has_ended self.old ≡ false }
         ensures turn { IfOk result (λ did. SettleTurn self.old did self.new) }

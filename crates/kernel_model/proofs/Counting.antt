@@ -1,5 +1,5 @@
 -- What each act adds to the calls and to the stored units.
-use Rattle.std.proofs.Common.{◌≡◌, ℕ, zero, suc, ◌+◌, ◌<◌, List, [], ◌∷◌, ◌++◌, length, map, sum, Some, None, get_or, set, refl, sym, ◌∙◌, ap, arith}
+use Rattle.std.proofs.Common.{◌≡◌, ℕ, zero, suc, ◌+◌, ◌<◌, true, List, [], ◌∷◌, ◌++◌, length, map, sum, Some, None, get_or, set, refl, sym, ◌∙◌, ap, arith}
 use Rattle.std.proofs.lemmas.List.Sums.{sum_by-cons}
 use Rattle.flow_base.specs.declared.value.Value.{Value}
 use Rattle.flow_base.specs.declared.outcome.Ending.{Ending}
@@ -9,6 +9,9 @@ use Rattle.flow_base.specs.declared.outcome.Outcome.{Outcome}
 use Rattle.flow_base.specs.declared.outcome.Outcome.TheVariants as o
 use Rattle.flow_base.specs.Values.{units}
 use Rattle.script_tree.specs.Grammar.{Tree}
+use Rattle.task_record.specs.declared.status.Status.{Status}
+use Rattle.task_record.specs.declared.status.Status.TheVariants as status
+use Rattle.task_record.specs.States.{is_settled}
 use Rattle.event_log.specs.declared.entry.Entry.{Entry}
 use Rattle.event_log.specs.declared.entry.Entry.TheVariants as entry
 use Rattle.dependency_graph.specs.declared.monitor.Settlement.{Settlement}
@@ -17,12 +20,15 @@ use Rattle.flow_meaning.specs.declared.walk.Answer.TheVariants as answer
 use Rattle.flow_meaning.specs.Inputs.{Path}
 use Rattle.flow_meaning.specs.Sequential.{MainAct, Calls, Waits, Prints, Checkpoints}
 use Rattle.call_rules.specs.Calls.{Call, Dry}
+use Rattle.memo_table.specs.Keys.{KeyView}
+use Rattle.memo_table.specs.Table.{MemoView, found, with_saved}
+use Rattle.memo_table.specs.declared.saved.Saved.{Saved}
 use Rattle.history_laws.specs.Tables.{status_of}
 use Rattle.stored_units.specs.Stored.{outcome_units}
 use Rattle.kernel_model.specs.declared.answers.Refusal.{Refusal}
-use Rattle.kernel_model.specs.Known.{Known, Life, no_life, life_at, outcome_in, settled_outcome, printed_in}
-use Rattle.kernel_model.specs.Acts.{started_with, pending, future_of, submitted, all_submitted, answered, called, waited, printed, checkpointed, arrived_at, main_ended, put, launched, started, finished, settled_as, joining, joined, over, refused}
-use Rattle.kernel_model.specs.Limits.{stored, units_of_call, units_where, units_of_life}
+use Rattle.kernel_model.specs.Known.{Known, Life, no_life, life_at, outcome_in, settled_outcome, printed_in, value_of}
+use Rattle.kernel_model.specs.Acts.{started_with, pending, future_of, submitted, all_submitted, answered, called, waited, printed, checkpointed, arrived_at, main_ended, put, launched, started, finished, settled_in, settled_as, hit, recalled, stored_by, joining, joined, over, refused}
+use Rattle.kernel_model.specs.Limits.{stored, units_of_call, units_where, units_of_life, units_of_saved, units_of_memo}
 use Rattle.kernel_model.proofs.Places.{length-pushed}
 use Rattle.kernel_model.proofs.Reading.{printed-append}
 
@@ -93,11 +99,11 @@ stored-over w = refl
 pub stored-refused : (w : Known) (r : Refusal) → stored (refused w r) ≡ stored w
 stored-refused w r = refl
 
-outcome-settled : (life : Life) (outcome : Outcome) → outcome_in (record life { status = status_of outcome; end = Some outcome }) ≡ Some outcome
-outcome-settled life (o.Value value files) = refl
-outcome-settled life (o.Failed exception) = by_kind exception
+settled-state : (outcome : Outcome) → is_settled (status_of outcome) ≡ true
+settled-state (o.Value value files) = refl
+settled-state (o.Failed exception) = by_kind exception
   where
-    by_kind : (e : Exception) → outcome_in (record life { status = status_of (o.Failed e); end = Some (o.Failed e) }) ≡ Some (o.Failed e)
+    by_kind : (e : Exception) → is_settled (status_of (o.Failed e)) ≡ true
     by_kind (x.DependencyError paths) = refl
     by_kind e = refl
 
@@ -120,12 +126,30 @@ stored-joining w k ran none = stored-put w k _ entry.End (sym none)
 pub stored-joined : (w : Known) (k : ℕ) (ran : Dry) → settled_outcome w k ≡ None → stored (joined w k ran) ≡ stored w + sum (map units_of_call ran.1)
 stored-joined w k ran none = omega (arith, stored-all_submitted (joining w k ran) ran.1, stored-joining w k ran none)
 
-pub stored-settled_as : (w : Known) (k : ℕ) (outcome : Outcome) → k < length w.lives → settled_outcome w k ≡ None → stored (settled_as w k outcome) ≡ stored w + outcome_units outcome
-stored-settled_as w k outcome within none =
-    let life : Life = record (life_at w k) { status = status_of outcome; end = Some outcome } in
-    let now : units_of_life life ≡ outcome_units outcome = ap units_where (outcome-settled life outcome) in
+-- a task that settles gets its outcome
+pub stored-settled_in : (w : Known) (k : ℕ) (s : Status) (outcome : Outcome) → is_settled s ≡ true → k < length w.lives → settled_outcome w k ≡ None → stored (settled_in w k s outcome) ≡ stored w + outcome_units outcome
+stored-settled_in w k s outcome is within none =
+    let life : Life = record (life_at w k) { status = s; end = Some outcome } in
+    let now : units_of_life life ≡ outcome_units outcome = rw is refl in
     let before : units_of_life (life_at w k) ≡ 0 = ap units_where none in
     omega (arith, sum-set units_of_life w.lives k life no_life within, now, before)
+
+pub stored-settled_as : (w : Known) (k : ℕ) (outcome : Outcome) → k < length w.lives → settled_outcome w k ≡ None → stored (settled_as w k outcome) ≡ stored w + outcome_units outcome
+stored-settled_as w k outcome = stored-settled_in w k (status_of outcome) outcome (settled-state outcome)
+
+-- a value from the memo is an outcome too
+pub stored-recalled : (w : Known) (k : ℕ) (saved : Saved) → k < length w.lives → settled_outcome w k ≡ None → stored (recalled w k saved) ≡ stored w + outcome_units (value_of saved)
+stored-recalled w k saved = stored-settled_in (hit w k) k status.MemoDone (value_of saved) refl
+
+-- a key that isn't there is added with its value
+pub memo-stored : (memo : MemoView) (key : KeyView) (saved : Saved) → found memo key ≡ None → units_of_memo (with_saved memo key saved) ≡ units_of_memo memo + units_of_saved (key, saved)
+memo-stored memo key saved none = ap units_of_memo new ∙ sum-push units_of_saved memo (key, saved)
+  where
+    new : with_saved memo key saved ≡ memo ++ (key, saved) ∷ []
+    new = rw none refl
+
+pub stored-stored_by : (w : Known) (k : ℕ) (key : KeyView) (saved : Saved) → found w.memo key ≡ None → stored (stored_by w k key saved) ≡ stored w + units_of_saved (key, saved)
+stored-stored_by w k key saved none = omega (arith, memo-stored w.memo key saved none)
 
 -- ---- calls
 
@@ -171,6 +195,12 @@ calls-finished w k outcome = refl
 
 pub calls-settled_as : (w : Known) (k : ℕ) (outcome : Outcome) → length (settled_as w k outcome).calls ≡ length w.calls
 calls-settled_as w k outcome = refl
+
+pub calls-recalled : (w : Known) (k : ℕ) (saved : Saved) → length (recalled w k saved).calls ≡ length w.calls
+calls-recalled w k saved = refl
+
+pub calls-stored_by : (w : Known) (k : ℕ) (key : KeyView) (saved : Saved) → length (stored_by w k key saved).calls ≡ length w.calls
+calls-stored_by w k key saved = refl
 
 pub calls-joined : (w : Known) (k : ℕ) (ran : Dry) → length (joined w k ran).calls ≡ length w.calls + length ran.1
 calls-joined w k ran = calls-all_submitted (joining w k ran) ran.1

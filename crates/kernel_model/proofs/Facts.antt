@@ -12,12 +12,13 @@ use Rattle.flow_meaning.specs.Inputs.{Path, path_in}
 use Rattle.flow_meaning.specs.Meaning.{Done}
 use Rattle.flow_meaning.specs.Sequential.{apply, outcome_at, seq}
 use Rattle.call_rules.specs.Calls.{Begin, Fails, Attempts, Joins, join_dry}
+use Rattle.memo_table.specs.declared.saved.Saved.{Saved}
 use Rattle.history_laws.specs.Legal.{Holds as LawHolds, IsLegal, IsComplete}
 use Rattle.history_laws.specs.Laws.{SettlingLaw}
 use Rattle.history_laws.specs.Reads.{History, has_end, lost}
 use Rattle.history_laws.specs.Tables.{table}
 use Rattle.history_laws.specs.declared.table.Table.{Table}
-use Rattle.kernel_model.specs.Known.{Known, path_at, settled_outcome, known, begin_at, main_left, no_retries, has_ended, apps_in}
+use Rattle.kernel_model.specs.Known.{Known, path_at, settled_outcome, known, begin_at, saved_at, main_left, no_retries, has_ended, apps_in}
 use Rattle.script_tree.specs.declared.tree.AppDef.{AppDef}
 use Rattle.script_tree.specs.Grammar.{Tree}
 use Rattle.flow_meaning.specs.Operators.{Text}
@@ -25,8 +26,9 @@ use Rattle.flow_meaning.specs.Walk.{body_act}
 use Rattle.body_requests.specs.Asks.{Each, IsPlain, AsksTold, EndsPlain}
 use Rattle.kernel_model.specs.Invariants.{Inv}
 use Rattle.kernel_model.specs.Conditions.{MainAsks}
-use Rattle.kernel_model.specs.Turns.{CarriesOut, begins, ends, carried_out, outcome_step, unsettled_step, wait_step, request_step, act_step, unless_ended, script_step}
+use Rattle.kernel_model.specs.Turns.{CarriesOut, begins, ends, attempted, carried_out, outcome_step, unsettled_step, wait_step, request_step, act_step, unless_ended, script_step}
 use Rattle.kernel_model.proofs.KeepingTasks.{keep-launched, keep-failed, keep-join-ended}
+use Rattle.kernel_model.proofs.KeepingMemo.{keep-recalled}
 use Rattle.kernel_model.proofs.KeepingSubmits.{keep-joined}
 use Rattle.kernel_model.proofs.KeepingMain.{keep-called, keep-waited-value, keep-waited-name, keep-unwaited-value, keep-unwaited-name, keep-printed, keep-checkpointed, keep-arrived, keep-main-ended}
 use Rattle.call_rules.specs.Told.{IsTold}
@@ -118,9 +120,13 @@ keep-script-step w inv not_ended = by_ending w.ending refl
 pub keep-carried-out : (w v : Known) → Inv w → has_ended w ≡ false → CarriesOut w v → Inv v
 keep-carried-out w v inv not_ended (begins k callback after) = subst Inv (sym after) (by_begin (begin_at w k) refl)
   where
+    by_saved : (app : AppDef) (values : List Value) → begin_at w k ≡ Attempts app values → (r : Option Saved) → saved_at w k ≡ r → Inv (attempted w k r)
+    by_saved app values is None saved = keep-launched w k inv (record { not_ended = not_ended; callback = callback; app = app; values = values; begins = is; unsaved = saved })
+    by_saved app values is (Some value) saved = keep-recalled w k value inv (record { not_ended = not_ended; callback = callback; is = saved })
+
     by_begin : (b : Begin) → begin_at w k ≡ b → Inv (carried_out w k b)
     by_begin (Fails exception) is = keep-failed w k exception inv (record { not_ended = not_ended; callback = callback; begins = is })
-    by_begin (Attempts app values) is = keep-launched w k inv (record { not_ended = not_ended; callback = callback; app = app; values = values; begins = is })
+    by_begin (Attempts app values) is = by_saved app values is (saved_at w k) refl
     by_begin (Joins app values) is = keep-joined w k (join_dry (apps_in w) (path_at w k) app values) inv (record { not_ended = not_ended; callback = callback; app = app; values = values; begins = is; is = refl })
 keep-carried-out w v inv not_ended (ends k is after) = subst Inv (sym after) (keep-join-ended w k _ inv (record { not_ended = not_ended; done = is; is = refl }))
 

@@ -5,7 +5,8 @@ use Rattle.script_tree.specs.Grammar.{Tree}
 use Rattle.flow_meaning.specs.Inputs.{Path, inputs}
 use Rattle.flow_meaning.specs.Sequential.{outcome_at}
 use Rattle.call_rules.specs.Calls.{Losses, Call, begin, awaits, calls_below, call_outcome}
-use Rattle.kernel_model.specs.Known.{Known, call_at, path_at, settled_outcome, inputs_at, known, begin_at, apps_in}
+use Rattle.history_laws.specs.Tables.{key_with}
+use Rattle.kernel_model.specs.Known.{Known, call_at, path_at, settled_outcome, inputs_at, known, begin_at, key_at, apps_in}
 use Rattle.kernel_model.specs.Invariants.{FitsAt, FitsLosses, Tracks, GrowsInto}
 use Rattle.call_rules.proofs.Agreeing.{Agree, agree-known, known-agree, begin-agrees, awaits-agree, calls-agree, outcome-agrees}
 use Rattle.kernel_model.proofs.Places.{known-at, known-only, settled-within}
@@ -33,6 +34,12 @@ grows-begin w v tw tv grows k within h =
     ap (λ (c : Call). begin (apps_in v) (known v) c) (grows.call k within)
     ∙ ap (λ (tree : Tree). begin tree.0 (known v) (call_at w k)) grows.tree
     ∙ sym (begin-agrees (apps_in w) (known w) (known v) (call_at w k) (grows-agree w v tw tv grows (inputs_at w k) h))
+
+-- so it has the same key
+pub grows-key : (w v : Known) → Tracks w → Tracks v → GrowsInto w v → (k : ℕ) → k < length w.calls → AllKnown (known w) (inputs_at w k) → key_at v k ≡ key_at w k
+grows-key w v tw tv grows k within h =
+    ap (λ (c : Call). key_with c.names (begin_at v k)) (grows.call k within)
+    ∙ ap (key_with (call_at w k).names) (grows-begin w v tw tv grows k within h)
 
 pub grows-awaits : (w v : Known) → Tracks w → Tracks v → GrowsInto w v → (k : ℕ) → k < length w.calls → AllKnown (known w) (inputs_at w k) → awaits (apps_in v) (known v) (call_at v k) ≡ awaits (apps_in w) (known w) (call_at w k)
 grows-awaits w v tw tv grows k within h =

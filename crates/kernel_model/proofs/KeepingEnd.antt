@@ -24,6 +24,7 @@ use Rattle.call_rules.proofs.Evaluating.{whole-ruled}
 use Rattle.kernel_model.proofs.Places.{known-at, known-settled, settled-within, run-within, ran-within, IsAt}
 use Rattle.kernel_model.proofs.Reading.{end-life, waits-stay}
 use Rattle.kernel_model.proofs.Growing.{fits-on, fits-back}
+use Rattle.kernel_model.proofs.Memos.{memo-stays}
 use Rattle.kernel_model.proofs.Knowing.{task-is, calls-path, whole-agrees}
 use Rattle.kernel_model.proofs.KeepingPut.{joined-on, open-yet, free-yet, attempted-on, family-on}
 use Rattle.call_rules.specs.Told.{whole_ran, whole}
@@ -127,6 +128,7 @@ keep-over w inv can =
     record {
       holds = record {
         told = h.told;
+        texts = h.texts;
         tracks = tv;
         runs = record { attempted = λ k r. attempted-on w v tw tv grows k (run-within w tw.lives k r) (h.runs.attempted k r); ended = h.runs.ended };
         joins = record {
@@ -134,6 +136,7 @@ keep-over w inv can =
           settled = h.joins.settled;
           is_due = λ p n g. absurd (cc);
         };
+        memo = memo-stays w v h tv grows refl (λ keys key. refl) (λ k outcome g. g);
         main = record { asks = h.main.asks; mains = h.main.mains; called = h.main.called; waits = waits-stay entry.End (acts_of w.acts) w.past h.main.waits; ended = h.main.ended };
         right = record {
           fits = λ k outcome g. fits-on w v tw tv grows (lost w.past) k outcome (settled-within w tw.lives k outcome g) (h.right.fits k outcome g);

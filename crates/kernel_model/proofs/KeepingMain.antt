@@ -31,7 +31,7 @@ use Rattle.history_laws.specs.Laws.{stands, AllSettled}
 use Rattle.call_rules.specs.Groups.{IsGroup, IsPlainOutcome, HasTask}
 use Rattle.kernel_model.specs.declared.answers.Refusal.{Refusal}
 use Rattle.kernel_model.specs.Known.{Known, call_at, path_at, life_at, known, main_rule, main_left, printed_in, apps_in, next_path, IsDone}
-use Rattle.kernel_model.specs.Invariants.{IsOf, of_main, of_join, IsDue, FitsLosses, FollowsEvaluation, WaitsSettled, EndsSo, Tracks, MainDid, IsConsistent, IsQuiet, Inv, GrowsInto}
+use Rattle.kernel_model.specs.Invariants.{IsOf, of_main, of_join, IsDue, FitsLosses, FollowsEvaluation, WaitsSettled, EndsSo, Tracks, TextsDiffer, MainDid, IsConsistent, IsQuiet, Inv, GrowsInto}
 use Rattle.kernel_model.specs.Acts.{started_with, submit_of, answered, call_of, future_of, called, waited, printed, checkpointed, arrived_at, main_ended, refused}
 use Rattle.kernel_model.specs.Conditions.{MainAsks, CanEndMain}
 use Rattle.call_rules.proofs.Tasks.{found-front, found-some, outcome-found, some-of, keeps-front, keeps-task, parent-same, child-same}
@@ -40,10 +40,11 @@ use Rattle.call_rules.proofs.Evaluating.{one-more, rule-rules, none-made, childr
 use Rattle.kernel_model.proofs.Places.{known-settled, settled-within, run-within, ran-within, known-push, pushed-cases, length-pushed}
 use Rattle.kernel_model.proofs.Reading.{waits-stay, waits-append, calls-append, waits_before-append, waits_before-settled, acts_of-append, printed-append}
 use Rattle.kernel_model.proofs.Growing.{fits-on, fits-back}
+use Rattle.kernel_model.proofs.Memos.{memo-stays}
 use Rattle.kernel_model.proofs.Knowing.{knows-call, known-whole, whole-on, performs-on, acts-are}
 use Rattle.kernel_model.proofs.KeepingPut.{joined-on, open-yet, free-yet, attempted-on, family-on}
 use Rattle.kernel_model.proofs.KeepingTasks.{path-long}
-use Rattle.kernel_model.proofs.KeepingSubmits.{grown, new-call, old-call, submit-grows, by-place, submit-tracks, submit-runs, submit-joins, submit-fits, submit-back, submit-placed, submit-agrees}
+use Rattle.kernel_model.proofs.KeepingSubmits.{grown, new-call, old-call, submit-grows, by-place, submit-tracks, submit-runs, submit-joins, submit-fits, submit-back, submit-memo, submit-placed, submit-agrees}
 use Rattle.history_laws.proofs.Dues.{due_of, due-path, due-count}
 use Rattle.call_rules.specs.Told.{whole_ran, whole, IsChild, Asks, IsTold}
 
@@ -65,21 +66,29 @@ start-goes : (tree : Tree) (losses : Losses) → whole_ran tree losses ≡ perfo
 unfolding main_ran
 start-goes tree losses = refl
 
-pub keep-start : (tree : Tree) (told : List (List Settlement)) → IsTold tree → Inv (started_with tree told)
-keep-start tree told is = record {
+pub keep-start : (tree : Tree) (told : List (List Settlement)) → IsTold tree → TextsDiffer tree → Inv (started_with tree told)
+keep-start tree told is differ = record {
   holds = record {
     told = is;
+    texts = differ;
     tracks = record {
       lives = refl;
       distinct = λ j k h. absurd (omega arith);
       there = λ k h. absurd (omega arith);
       lived = λ k h. absurd (omega arith);
-      none = λ p ne. record { reached = refl; first = λ h. refl; joined = refl; opened = λ h. record { attempts = refl; costs = refl; stage = refl; last = refl; unsettled = refl }; closed = λ h. absurd (cc) };
+      none = λ p ne. record { reached = refl; first = λ h. refl; joined = refl; hit = refl; opened = λ h. record { attempts = refl; costs = refl; stage = refl; last = refl; unsettled = refl }; closed = λ h. absurd (cc) };
       begun = λ k h. absurd (omega arith);
       family = λ k h. absurd (omega arith);
     };
     runs = record { attempted = λ k h. absurd h; ended = λ k outcome h. absurd (cc) };
     joins = record { ran = λ k result h. absurd (cc); settled = λ k outcome h. absurd (cc); is_due = λ p n h. absurd (cc) };
+    memo = record {
+      once = tt;
+      values = λ key saved h. absurd (cc);
+      made = λ key h. absurd (cc);
+      kept = λ k outcome h. absurd (cc);
+      told = λ losses h key. refl;
+    };
     main = record {
       asks = record { paths = []; told = is.main; made = tt };
       mains = λ i h. absurd (omega arith);
@@ -143,6 +152,7 @@ module _ (w : Known) (answers : List Answer) (arrived : Bool) (ending : Option E
       record {
         holds = record {
           told = h.told;
+          texts = h.texts;
           tracks = tv;
           runs = record {
             attempted = λ k r. attempted-on w now tw tv main-grows k (run-within w tw.lives k r) (h.runs.attempted k r);
@@ -153,6 +163,7 @@ module _ (w : Known) (answers : List Answer) (arrived : Bool) (ending : Option E
             settled = h.joins.settled;
             is_due = λ p n g. main_due p n (h.joins.is_due p n g);
           };
+          memo = memo-stays w now h tv main-grows refl (λ keys key. refl) (λ k outcome g. g);
           main = did;
           right = record {
             fits = λ k outcome g. fits-on w now tw tv main-grows (lost w.past) k outcome (settled-within w tw.lives k outcome g) (h.right.fits k outcome g);
@@ -456,11 +467,13 @@ keep-called w app arguments names inv asks =
     record {
       holds = record {
         told = h.told;
+        texts = h.texts;
         tracks = tv;
         runs = submit-runs w c rs false acts h tv;
         joins = submit-joins w c rs false acts h tv
             (λ k result ran. joined-on w v inv tv grows k result (ran-within w tw.lives k (some-of (life_at w k).ran result ran)) (h.joins.ran k result ran))
             (λ p m at. main_due_on w c rs acts h refl p m at);
+        memo = submit-memo w c rs false acts h tv;
         main = record {
           asks = subst (Asks [] (submits v.past)) (sym left) (subst (λ (m : ℕ). Asks [] m (asks.go (answer.Called (future_of c)))) (sym more_suc) (asks-call [] (submits w.past) app arguments names asks.go (length names) asked));
           mains = λ i lt.

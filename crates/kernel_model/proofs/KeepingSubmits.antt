@@ -17,7 +17,7 @@ use Rattle.history_laws.specs.Reads.{History, one_more, submits, is_of_main, is_
 use Rattle.history_laws.specs.Tables.{task_at, acts_of, is_join, table}
 use Rattle.history_laws.specs.Laws.{follows, calls_in_task}
 use Rattle.kernel_model.specs.Known.{Known, no_call, no_life, no_retries, call_at, path_at, life_at, status_at, outcome_in, settled_outcome, inputs_at, known, begin_at, main_left, has_ended, apps_in}
-use Rattle.kernel_model.specs.Invariants.{IsLife, HasRun, IsCall, IsOf, of_join, IsDue, FitsLosses, FollowsEvaluation, Tracks, IsAttempted, Runs, IsJoined, JoinsRan, IsConsistent, Inv, GrowsInto}
+use Rattle.kernel_model.specs.Invariants.{IsLife, HasRun, IsCall, IsOf, of_join, IsDue, FitsLosses, FollowsEvaluation, Tracks, IsAttempted, Runs, IsJoined, JoinsRan, Memoises, IsConsistent, Inv, GrowsInto}
 use Rattle.kernel_model.specs.Acts.{pending, submit_of, submitted, all_submitted, joining, joined}
 use Rattle.kernel_model.specs.Conditions.{CanJoin, CanSubmitChild}
 use Rattle.call_rules.proofs.Tasks.{child-same, some-of, slice-within, same-some}
@@ -25,6 +25,7 @@ use Rattle.call_rules.proofs.Agreeing.{calls-agree}
 use Rattle.kernel_model.proofs.Places.{settled-within, run-within, ran-within, known-push, pushed-cases, outcome-pushed, length-pushed}
 use Rattle.kernel_model.proofs.Reading.{path-same, submit-life, waits-stay}
 use Rattle.kernel_model.proofs.Growing.{grows-begin, fits-on, fits-back}
+use Rattle.kernel_model.proofs.Memos.{memo-stays}
 use Rattle.kernel_model.proofs.Knowing.{knows-call, ruled-at, calls-path, whole-agrees}
 use Rattle.kernel_model.proofs.KeepingPut.{joined-grows, call-grows, open-yet, attempted-on, ended-on, family-on}
 use Rattle.kernel_model.proofs.KeepingTasks.{path-long, keep-joining, joining-begin, joining-within}
@@ -75,6 +76,7 @@ module _ (w : Known) (c : Call) (answers : List Answer) (arrived : Bool) (acts :
         reached = refl;
         first = λ e. refl;
         joined = h.joined;
+        hit = h.hit;
         opened = λ e. record { attempts = before.attempts; costs = before.costs; stage = before.stage; last = before.last; unsettled = before.unsettled };
         closed = λ e. absurd (cc);
       }
@@ -144,6 +146,10 @@ module _ (w : Known) (c : Call) (answers : List Answer) (arrived : Bool) (acts :
 
   pub submit-back : (h : IsConsistent w) → Tracks after_it → (losses : Losses) → FitsLosses losses after_it → FitsLosses losses w
   submit-back h tv losses f = fits-back w after_it h.tracks tv submit-grows (lost w.past) h.right.fits losses f
+
+  -- nothing is stored, and nothing settles
+  pub submit-memo : IsConsistent w → Tracks after_it → Memoises after_it
+  submit-memo h tv = memo-stays w after_it h tv submit-grows refl (λ keys key. refl) (λ k outcome g. sym (outcome-pushed w.lives k) ∙ g)
 
   pub submit-placed : (losses : Losses) → ((k : ℕ) → k < length w.calls → HasTask (whole w.tree losses) (call_at w k)) → HasTask (whole w.tree losses) c → (k : ℕ) → k < length after_it.calls → HasTask (whole w.tree losses) (call_at after_it k)
   submit-placed losses before here = by-place (λ k. HasTask (whole w.tree losses) (call_at after_it k))
@@ -270,11 +276,13 @@ keep-child w k n c h can =
     } in
     record {
       told = h.told;
+      texts = h.texts;
       tracks = tv;
       runs = submit-runs w c w.answers w.arrived w.acts h tv;
       joins = submit-joins w c w.answers w.arrived w.acts h tv
           (λ j result ran. child_joined w k n c h can d tv now_due j result (ran_before j (some-of (life_at w j).ran result ran)) (h.joins.ran j result ran))
           (λ p m at. child_due w k n c h can d ran_on now_due p m at);
+      memo = submit-memo w c w.answers w.arrived w.acts h tv;
       main = record {
         asks = subst (λ (m : ℕ). Asks [] m (main_left w)) (sym same_submits) h.main.asks;
         mains = λ i lt. let was = h.main.mains i (omega arith) in (was.0, let less = was.1 in omega arith, ap (λ (b : Call). b.path) (old was.0 was.1) ∙ was.2);

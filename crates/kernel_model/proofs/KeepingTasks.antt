@@ -1,5 +1,5 @@
 -- Each act on a task keeps what a kernel keeps.
-use Rattle.std.proofs.Common.{◌≡◌, ℕ, ◌+◌, ◌<◌, true, false, if◌then◌else◌, List, [], length, Option, Some, None, IsSome, refl, sym, ◌∙◌, ap, subst, arith}
+use Rattle.std.proofs.Common.{◌≡◌, ℕ, ◌+◌, ◌<◌, true, false, if◌then◌else◌, List, [], ◌∷◌, length, Option, Some, None, IsSome, refl, sym, ◌∙◌, ap, subst, arith}
 use Rattle.std.specs.Prelude.{Result, is_some}
 use Rattle.flow_base.specs.declared.outcome.Exception.{Exception}
 use Rattle.flow_base.specs.declared.outcome.Exception.TheVariants as x
@@ -17,40 +17,24 @@ use Rattle.flow_meaning.specs.Inputs.{Path}
 use Rattle.flow_meaning.specs.Meaning.{Done}
 use Rattle.flow_meaning.specs.Sequential.{Tasks, outcome_of, apply, join_outcome}
 use Rattle.call_rules.specs.Calls.{Losses, Dry, child, Begin, awaits_with, awaited, outcome_with, call_outcome, join_dry, calls_below, calls_with}
-use Rattle.history_laws.specs.Reads.{Stage, Unlaunched, Waiting, Running, Over, stage, last_try, cost, costs, lost}
-use Rattle.history_laws.specs.Tables.{task_at, status_of, kind_of, kind_with, is_attempt, is_join, table}
-use Rattle.history_laws.specs.Laws.{MayFollow, MaySettle, IsOut, AttemptsSettle, AllSettled}
-use Rattle.kernel_model.specs.Known.{Known, no_retries, call_at, path_at, life_at, status_at, outcome_in, settled_outcome, inputs_at, known, begin_at, word_of, has_ended, apps_in}
-use Rattle.kernel_model.specs.Invariants.{IsLife, IsReached, HasRun, IsOf, of_main, of_join, IsDue, FitsAt, FollowsEvaluation, IsAttempted, IsConsistent, Inv, stage_with, try_with, last_cost}
+use Rattle.history_laws.specs.Reads.{has_hit, Stage, Unlaunched, Waiting, Running, Over, stage, last_try, cost, costs, lost}
+use Rattle.history_laws.specs.Tables.{task_at, status_of, kind_of, kind_with, key_with, is_attempt, is_join, table}
+use Rattle.history_laws.specs.Laws.{state_with, MayFollow, MaySettle, IsOut, AttemptsSettle, AllSettled}
+use Rattle.kernel_model.specs.Known.{Known, no_retries, call_at, path_at, life_at, status_at, outcome_in, settled_outcome, inputs_at, known, begin_at, key_at, saved_for, is_kept, word_of, has_ended, apps_in}
+use Rattle.kernel_model.specs.Invariants.{IsReached, HasRun, IsOf, of_main, of_join, IsDue, FitsAt, FollowsEvaluation, IsAttempted, IsConsistent, Inv, stage_with, try_with, last_cost, is_memoised}
 use Rattle.kernel_model.specs.Acts.{put, launched, started, finished, settlement_of, settled_as, joining}
 use Rattle.kernel_model.specs.Turns.{IsCallback}
 use Rattle.kernel_model.specs.Conditions.{CanLaunch, CanStart, CanFinish, CanFail, CanSettle, CanJoin, CanEndJoin}
 use Rattle.call_rules.proofs.Tasks.{some-of, parent-same, length-child}
 use Rattle.call_rules.proofs.Agreeing.{begin-attempts, begin-joins, runs-values}
-use Rattle.kernel_model.proofs.Places.{life-same, status-within, known-put, known-settled, values-valued}
+use Rattle.kernel_model.proofs.Places.{life-same, known-put, known-settled, values-valued}
+use Rattle.kernel_model.proofs.States.{not-memoised, none-at, at-state, kept-stored}
 use Rattle.kernel_model.proofs.Reading.{path-same}
 use Rattle.kernel_model.proofs.Retelling.{inv-retold}
-use Rattle.kernel_model.proofs.Knowing.{knows-call}
+use Rattle.kernel_model.proofs.Knowing.{knows-call, row-key}
 use Rattle.kernel_model.proofs.KeepingPut.{keep-put, joined-on, put-grows, no-awaits}
 use Rattle.history_laws.proofs.Dues.{due-path}
 use Rattle.call_rules.specs.Groups.{AllKnown}
-
-none-at : (w : Known) (k : ℕ) (outcome : Outcome) → is_settled (status_at w k) ≡ false → settled_outcome w k ≡ Some outcome → ⊥
-none-at w k outcome unsettled h = absurd (let none = rw unsettled at h in cc)
-
--- how a task stands that isn't settled
-record IsAtState (w : Known) (k : ℕ) (s : Status) : Type 0 where
-  within : k < length w.calls
-  is : status_at w k ≡ s
-  unsettled : is_settled (status_at w k) ≡ false
-  life : IsLife no_retries (path_at w k) w.past (life_at w k)
-  reached : IsReached (life_at w k) s
-
-at_state : (w : Known) → Inv w → (k : ℕ) (s : Status) → status_at w k ≡ s → (s ≡ status.Unsched → ⊥) → is_settled s ≡ false → IsAtState w k s
-at_state w inv k s is begun unsettled =
-    let within = status-within w inv.holds.tracks.lives k (λ h. begun (sym is ∙ h)) in
-    let life = inv.holds.tracks.lived k within in
-    record { within = within; is = is; unsettled = ap is_settled is ∙ unsettled; life = life; reached = subst (IsReached (life_at w k)) is life.reached }
 
 pub keep-launched : (w : Known) (k : ℕ) → Inv w → CanLaunch w k → Inv (launched w k)
 keep-launched w k inv can =
@@ -58,7 +42,7 @@ keep-launched w k inv can =
     let tw = h.tracks in
     let life = life_at w k in
     let p : Path = path_at w k in
-    let s = at_state w inv k status.Pending can.callback.pending (λ e. absurd (cc)) refl in
+    let s = at-state w inv k status.Pending can.callback.pending (λ e. absurd (cc)) refl in
     let idle : life.ran ≡ None = s.reached in
     let before = s.life.opened s.unsettled in
     let last : Unlaunched ≡ last_try p w.past = ap (λ (t : Status). try_with t life.end) (sym s.is) ∙ before.last in
@@ -69,13 +53,14 @@ keep-launched w k inv can =
       holds = keep-put w k _ _ inv (record {
         not_ended = can.not_ended;
         within = s.within;
-        of_task = refl;
+        of_task = (refl, tt);
         kept = λ outcome g. absurd (none-at w k outcome s.unsettled g);
         kept_ran = λ g. g;
         is_life = record {
           reached = idle;
           first = λ g. absurd (cc);
           joined = s.life.joined;
+          hit = s.unhit;
           opened = λ g. record { attempts = rw own (ap (λ (n : ℕ). n + 1) before.attempts); costs = sum; stage = rw own refl; last = rw own refl; unsettled = before.unsettled };
           closed = λ g. absurd (cc);
         };
@@ -86,7 +71,7 @@ keep-launched w k inv can =
         settled = λ outcome g. absurd (cc);
         is_due = λ q n g. absurd (cc);
         fits = λ outcome g. absurd (cc);
-        stands = λ losses later e.
+        stands = λ losses fits later e.
             let c = knows-call w losses tw e k s.within in
             record {
               own = tt;
@@ -97,6 +82,8 @@ keep-launched w k inv can =
                 unsettled = before.unsettled;
                 inputs = rw c.inputs (values-valued w tw (inputs_at w k) values);
                 runs = c.runs can.callback.inputs ∙ ap is_attempt can.begins;
+                fresh = λ key is. h.memo.told losses fits key ∙ ap is_some (ap (saved_for w.memo) (sym (sym (c.key can.callback.inputs) ∙ is)) ∙ can.unsaved);
+                unhit = s.unhit;
               };
               attempts = record {
                 number = ap (λ (n : ℕ). n + 1) before.attempts;
@@ -104,7 +91,7 @@ keep-launched w k inv can =
               };
               managers = refl;
             };
-      });
+      }) (λ keys key. refl) (λ outcome g. absurd (cc));
       quiet = λ j n lt at. absurd (cc);
     }
 
@@ -113,7 +100,7 @@ keep-started w k inv can =
     let h = inv.holds in
     let life = life_at w k in
     let p : Path = path_at w k in
-    let s = at_state w inv k status.Launched can.waiting (λ e. absurd (cc)) refl in
+    let s = at-state w inv k status.Launched can.waiting (λ e. absurd (cc)) refl in
     let idle : life.ran ≡ None = s.reached in
     let before = s.life.opened s.unsettled in
     let stands : Waiting ≡ stage p w.past = ap (λ (t : Status). stage_with t life.end) (sym s.is) ∙ before.stage in
@@ -124,13 +111,14 @@ keep-started w k inv can =
       holds = keep-put w k _ _ inv (record {
         not_ended = can.not_ended;
         within = s.within;
-        of_task = refl;
+        of_task = (refl, tt);
         kept = λ outcome g. absurd (none-at w k outcome s.unsettled g);
         kept_ran = λ g. g;
         is_life = record {
           reached = idle;
           first = λ g. absurd (cc);
           joined = s.life.joined;
+          hit = s.unhit;
           opened = λ g. record { attempts = before.attempts; costs = sum; stage = rw own refl; last = last; unsettled = before.unsettled };
           closed = λ g. absurd (cc);
         };
@@ -141,8 +129,8 @@ keep-started w k inv can =
         settled = λ outcome g. absurd (cc);
         is_due = λ q n g. absurd (cc);
         fits = λ outcome g. absurd (cc);
-        stands = λ losses later e. record { own = tt; launching = tt; attempts = tt; managers = record { stands = sym stands; number = before.attempts; first = refl } };
-      });
+        stands = λ losses fits later e. record { own = tt; launching = tt; attempts = tt; managers = record { stands = sym stands; number = before.attempts; first = refl } };
+      }) (λ keys key. refl) (λ outcome g. absurd (cc));
       quiet = λ j n lt at. absurd (cc);
     }
 
@@ -162,7 +150,7 @@ keep-finished w k outcome inv can =
     let h = inv.holds in
     let life = life_at w k in
     let p : Path = path_at w k in
-    let s = at_state w inv k status.Running can.running (λ e. absurd (cc)) refl in
+    let s = at-state w inv k status.Running can.running (λ e. absurd (cc)) refl in
     let idle : life.ran ≡ None = s.reached in
     let before = s.life.opened s.unsettled in
     let stands : Running ≡ stage p w.past = ap (λ (t : Status). stage_with t life.end) (sym s.is) ∙ before.stage in
@@ -175,13 +163,14 @@ keep-finished w k outcome inv can =
       holds = keep-put w k _ _ inv (record {
         not_ended = can.not_ended;
         within = s.within;
-        of_task = refl;
+        of_task = (refl, tt);
         kept = λ q g. absurd (none-at w k q s.unsettled g);
         kept_ran = λ g. g;
         is_life = record {
           reached = (refl, idle);
           first = λ g. absurd (cc);
           joined = s.life.joined;
+          hit = s.unhit;
           opened = λ g. record { attempts = before.attempts; costs = rw own (ap (λ (n : ℕ). n + cost no_retries (word_of outcome)) plain_sum); stage = rw own refl; last = rw own refl; unsettled = before.unsettled };
           closed = λ g. absurd (cc);
         };
@@ -192,7 +181,7 @@ keep-finished w k outcome inv can =
         settled = λ q g. absurd (cc);
         is_due = λ q n g. absurd (cc);
         fits = λ q g. absurd (cc);
-        stands = λ losses later e.
+        stands = λ losses fits later e.
             let c = knows-call w losses h.tracks e k s.within in
             record {
               own = tt;
@@ -206,7 +195,7 @@ keep-finished w k outcome inv can =
               };
               managers = record { stands = sym stands; number = before.attempts; first = refl };
             };
-      });
+      }) (λ keys key. refl) (λ q g. absurd (cc));
       quiet = λ j n lt at. absurd (cc);
     }
 
@@ -235,6 +224,7 @@ record CanClose (w : Known) (k : ℕ) (outcome : Outcome) : Type 0 where
   within : k < length w.calls
   unsettled : is_settled (status_at w k) ≡ false
   fits : FitsAt (lost w.past) w k outcome
+  kept : is_kept w.memo (key_at w k) outcome ≡ true
   ran : is_join (begin_at w k) ≡ true → IsSome (life_at w k).ran
   attempts : (losses : Losses) → FollowsEvaluation losses w → AttemptsSettle no_retries (task_at (table w.tree losses) (path_at w k)) w.past (path_at w k) (status_of outcome)
 
@@ -248,6 +238,7 @@ keep_closed_yet w k outcome inv can =
     let tw = h.tracks in
     let p : Path = path_at w k in
     let was = tw.lived k can.within in
+    let unhit : has_hit p w.past ≡ false = was.hit ∙ not-memoised (status_at w k) can.unsettled in
     let before = was.opened can.unsettled in
     let own = path-same p in
     let l = tw.lives in
@@ -255,6 +246,7 @@ keep_closed_yet w k outcome inv can =
     let placed : k < length w.lives = omega arith in
     let state = status_of outcome in
     let is : is_settled state ≡ true = by-state (λ s. is_settled s ≡ true) refl refl refl outcome in
+    let plain : is_memoised state ≡ false = by-state (λ s. is_memoised s ≡ false) refl refl refl outcome in
     let same : (q : Outcome) → (if is_settled state then Some outcome else None) ≡ Some q → outcome ≡ q = λ q g. let f = rw is at g in cc in
     let v : Known = closed_yet w k outcome in
     let has : settled_outcome v k ≡ Some outcome = ap outcome_in (life-same w k _ (entry.Settled p state) placed) ∙ rw is refl in
@@ -264,24 +256,25 @@ keep_closed_yet w k outcome inv can =
       holds = keep-put w k _ _ inv (record {
         not_ended = can.not_ended;
         within = can.within;
-        of_task = refl;
+        of_task = (refl, tt);
         kept = kept;
         kept_ran = λ g. g;
         is_life = record {
           reached = by-state (λ s. IsReached (record (life_at w k) { status = state; end = Some outcome }) s) refl refl refl outcome;
           first = by-state (λ s. s ≡ status.Pending → (life_at w k).attempts ≡ 0) (λ g. absurd (cc)) (λ g. absurd (cc)) (λ g. absurd (cc)) outcome;
           joined = was.joined;
+          hit = unhit ∙ sym plain;
           opened = λ g. absurd (cc);
-          closed = λ g. record { settled = rw own refl; state = λ q f. ap status_of cc };
+          closed = λ g. record { settled = rw own refl; state = λ q f. let so : q ≡ outcome = cc in ap (λ m. state_with m (status_of q)) plain ∙ ap (λ r. Some (status_of r)) so };
         };
         begun = by-state (λ s. s ≡ status.Unsched → ⊥) (λ g. absurd (cc)) (λ g. absurd (cc)) (λ g. absurd (cc)) outcome;
         attempted = by-state (λ s. HasRun s → IsAttempted w k) (λ g. absurd g) (λ g. absurd g) (λ g. absurd g) outcome;
         ended = λ q. by-state (λ s. s ≡ status.RunningEnded → Some outcome ≡ Some q → q ≡ call_outcome (apps_in w) no_losses (known w) (call_at w k)) (λ g. absurd (cc)) (λ g. absurd (cc)) (λ g. absurd (cc)) outcome;
-        joined = λ tv result g. joined-on w v inv tv (put-grows w k _ _ placed kept) k result can.within (h.joins.ran k result g);
+        joined = λ tv result g. joined-on w v inv tv (put-grows w k _ w.memo (entry.Settled p state ∷ []) placed kept) k result can.within (h.joins.ran k result g);
         settled = λ q g. can.ran;
         is_due = λ q n g. absurd (cc);
         fits = λ q g. subst (FitsAt (lost w.past) w k) (same q g) can.fits;
-        stands = λ losses later e.
+        stands = λ losses fits later e.
             let c = knows-call w losses tw e k can.within in
             record {
               own = record {
@@ -289,15 +282,15 @@ keep_closed_yet w k outcome inv can =
                 is = c.is;
                 submitted = tw.there k can.within;
                 once = before.unsettled;
-                state = sym (c.evaluated outcome (later.agrees k outcome has));
+                state = ap (λ m. state_with m c.task.status) unhit ∙ ap Some (c.evaluated outcome (later.agrees k outcome has));
                 inputs = rw c.inputs (known-settled w tw (inputs_at w k) can.fits.inputs);
                 joined = λ joins. (was.joined ∙ some-true (life_at w k).ran (can.ran (sym (c.joins can.fits.inputs) ∙ joins)), subst (λ (ps : List Path). AllSettled ps w.past) (sym (c.awaits can.fits.inputs)) (known-settled w tw _ can.fits.awaited));
               };
-              launching = tt;
+              launching = λ done key is. h.memo.told losses fits key ∙ kept-stored w.memo (key_at w k) key outcome can.kept done (sym (row-key w losses k c can.fits.inputs) ∙ is);
               attempts = can.attempts losses e;
               managers = refl;
             };
-      });
+      }) (λ keys key. refl) (λ q g. subst (λ r. is_kept w.memo (key_at w k) r ≡ true) (same q g) can.kept);
       quiet = λ j n lt at. absurd (cc);
     }
 
@@ -307,7 +300,7 @@ keep-closed w k outcome inv can = inv-retold (closed_yet w k outcome) (tell (set
 -- one of the first three rules settles it, or its depth
 pub keep-failed : (w : Known) (k : ℕ) (exception : Exception) → Inv w → CanFail w k exception → Inv (settled_as w k (o.Failed exception))
 keep-failed w k exception inv can =
-    let s = at_state w inv k status.Pending can.callback.pending (λ e. absurd (cc)) refl in
+    let s = at-state w inv k status.Pending can.callback.pending (λ e. absurd (cc)) refl in
     keep-closed w k (o.Failed exception) inv (record {
       not_ended = can.not_ended;
       within = s.within;
@@ -317,6 +310,7 @@ keep-failed w k exception inv can =
         awaited = subst (AllKnown (known w)) (sym (ap (awaits_with (apps_in w) (path_at w k)) can.begins)) tt;
         by_rule = sym (ap (outcome_with (apps_in w) (lost w.past) (known w) (call_at w k)) can.begins);
       };
+      kept = ap (λ b. is_kept w.memo (key_with (call_at w k).names b) (o.Failed exception)) can.begins;
       ran = λ join. absurd (let none = sym (ap is_join can.begins) ∙ join in cc);
       attempts = λ losses e.
           let c = knows-call w losses inv.holds.tracks e k s.within in
@@ -346,19 +340,20 @@ keep-settled w k outcome inv can =
     let h = inv.holds in
     let p : Path = path_at w k in
     let life = life_at w k in
-    let s = at_state w inv k status.RunningEnded can.over (λ e. absurd (cc)) refl in
+    let s = at-state w inv k status.RunningEnded can.ready.over (λ e. absurd (cc)) refl in
     let before = s.life.opened s.unsettled in
     let attempt = h.runs.attempted k (subst HasRun (sym s.is) tt) in
-    let by_body = h.runs.ended k outcome s.is can.is in
+    let by_body = h.runs.ended k outcome s.is can.ready.is in
     let at_last = ap (λ (t : Status). try_with t life.end) (sym s.is) ∙ before.last in
-    let last : Over (word_of outcome) ≡ last_try p w.past = ap (λ (e : Option Outcome). try_with status.RunningEnded e) (sym can.is) ∙ at_last in
+    let last : Over (word_of outcome) ≡ last_try p w.past = ap (λ (e : Option Outcome). try_with status.RunningEnded e) (sym can.ready.is) ∙ at_last in
     let at_cost = ap (λ (t : Status). life.cost + last_cost no_retries t life.end) (sym s.is) ∙ before.costs in
-    let sum : life.cost + cost no_retries (word_of outcome) ≡ costs no_retries p w.past = ap (λ (e : Option Outcome). life.cost + last_cost no_retries status.RunningEnded e) (sym can.is) ∙ at_cost in
+    let sum : life.cost + cost no_retries (word_of outcome) ≡ costs no_retries p w.past = ap (λ (e : Option Outcome). life.cost + last_cost no_retries status.RunningEnded e) (sym can.ready.is) ∙ at_cost in
     keep-closed w k outcome inv (record {
       not_ended = can.not_ended;
       within = s.within;
       unsettled = s.unsettled;
       fits = record { inputs = attempt.inputs; awaited = no-awaits w k attempt; by_rule = by_body };
+      kept = can.ready.kept;
       ran = λ join. absurd (let none = sym (ap is_join attempt.begins) ∙ join in cc);
       attempts = λ losses e.
           let c = knows-call w losses h.tracks e k s.within in
@@ -399,7 +394,7 @@ keep-joining w k ran inv can =
     let tw = h.tracks in
     let life = life_at w k in
     let p : Path = path_at w k in
-    let s = at_state w inv k status.Pending can.callback.pending (λ e. absurd (cc)) refl in
+    let s = at-state w inv k status.Pending can.callback.pending (λ e. absurd (cc)) refl in
     let idle : life.ran ≡ None = s.reached in
     let before = s.life.opened s.unsettled in
     let stands_at : Unlaunched ≡ stage p w.past = ap (λ (t : Status). stage_with t life.end) (sym s.is) ∙ before.stage in
@@ -413,13 +408,14 @@ keep-joining w k ran inv can =
     keep-put w k _ _ inv (record {
       not_ended = can.not_ended;
       within = s.within;
-      of_task = refl;
+      of_task = (refl, tt);
       kept = λ outcome g. absurd (none-at w k outcome s.unsettled g);
       kept_ran = λ g. refl;
       is_life = record {
         reached = refl;
         first = λ g. absurd (cc);
         joined = rw own refl;
+        hit = s.unhit;
         opened = λ g. record { attempts = before.attempts; costs = sum; stage = stands_at; last = last; unsettled = before.unsettled };
         closed = λ g. absurd (cc);
       };
@@ -437,7 +433,7 @@ keep-joining w k ran inv can =
       settled = λ outcome g. absurd (cc);
       is_due = λ q n g. new_due w k ran inv idle s.within q (due-path p q 0 n g) n;
       fits = λ outcome g. absurd (cc);
-      stands = λ losses later e.
+      stands = λ losses fits later e.
           let c = knows-call w losses tw e k s.within in
           record {
             own = tt;
@@ -453,15 +449,15 @@ keep-joining w k ran inv can =
             attempts = tt;
             managers = refl;
           };
-    })
+    }) (λ keys key. refl) (λ outcome g. absurd (cc))
 
 pub joining-within : (w : Known) (k : ℕ) → Inv w → IsCallback w k → k < length w.calls
-joining-within w k inv callback = (at_state w inv k status.Pending callback.pending (λ e. absurd (cc)) refl).within
+joining-within w k inv callback = (at-state w inv k status.Pending callback.pending (λ e. absurd (cc)) refl).within
 
 -- its calls, by what is known then
 pub joining-begin : (w : Known) (k : ℕ) (ran : Dry) → Inv w → (can : CanJoin w k ran) → calls_below (apps_in w) (known (joining w k ran)) (call_at w k) ≡ (join_dry (apps_in w) (path_at w k) can.app can.values).1
 joining-begin w k ran inv can =
-    let s = at_state w inv k status.Pending can.callback.pending (λ e. absurd (cc)) refl in
+    let s = at-state w inv k status.Pending can.callback.pending (λ e. absurd (cc)) refl in
     let none : None ≡ settled_outcome w k = rw s.unsettled refl in
     let all : known (joining w k ran) ≡ known w = known-put w k (record (life_at w k) { status = status.Joining; ran = Some ran.0 }) (entry.JoinRun (path_at w k)) none in
     ap (λ (ts : Tasks). calls_below (apps_in w) ts (call_at w k)) all ∙ ap (calls_with (apps_in w) (path_at w k)) can.begins
@@ -471,7 +467,7 @@ pub keep-join-ended : (w : Known) (k : ℕ) (outcome : Outcome) → Inv w → Ca
 keep-join-ended w k outcome inv can =
     let h = inv.holds in
     let d = can.done in
-    let s = at_state w inv k status.Joining d.joining (λ e. absurd (cc)) refl in
+    let s = at-state w inv k status.Joining d.joining (λ e. absurd (cc)) refl in
     let j = h.joins.ran k d.result d.ran in
     keep-closed w k outcome inv (record {
       not_ended = can.not_ended;
@@ -482,6 +478,7 @@ keep-join-ended w k outcome inv can =
         awaited = subst (AllKnown (known w)) (ap awaited j.gave ∙ sym (ap (awaits_with (apps_in w) (path_at w k)) j.begins)) d.awaited;
         by_rule = can.is ∙ ap (join_outcome (known w)) j.gave ∙ sym (ap (outcome_with (apps_in w) (lost w.past) (known w) (call_at w k)) j.begins);
       };
+      kept = ap (λ b. is_kept w.memo (key_with (call_at w k).names b) outcome) j.begins;
       ran = λ join. some-of (life_at w k).ran d.result d.ran;
       attempts = λ losses e.
           let c = knows-call w losses h.tracks e k s.within in

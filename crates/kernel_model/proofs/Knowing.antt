@@ -17,8 +17,8 @@ use Rattle.flow_meaning.specs.Evaluations.{name_in}
 use Rattle.flow_meaning.specs.Sequential.{Tasks, outcome_at, Main, MainAct, Waits, Prints, Checkpoints, Rule, perform, main_answer, acted, waits, seq}
 use Rattle.history_laws.specs.declared.table.Expected.{Expected}
 use Rattle.call_rules.specs.Calls.{Losses, child, Call, task_of, found, dry_answer, dry, Begin, Fails, Attempts, Joins, join_act, begin, calls_below, calls_with, awaits}
-use Rattle.history_laws.specs.Tables.{task_at, acts_of, status_of, is_attempt, is_join, kind_with, expected, table}
-use Rattle.kernel_model.specs.Known.{Known, call_at, path_at, settled_outcome, inputs_at, known, begin_at, main_rule, main_left, apps_in}
+use Rattle.history_laws.specs.Tables.{task_at, row_key, table_key, acts_of, status_of, is_attempt, is_join, kind_with, key_with, expected, table}
+use Rattle.kernel_model.specs.Known.{Known, call_at, path_at, settled_outcome, inputs_at, known, begin_at, key_at, main_rule, main_left, apps_in}
 use Rattle.call_rules.specs.Groups.{IsRuled, AllKnown, HasTask}
 use Rattle.kernel_model.specs.Invariants.{FollowsEvaluation, Tracks}
 use Rattle.call_rules.proofs.Tasks.{outcome-found}
@@ -66,6 +66,7 @@ pub record KnowsCall (w : Known) (losses : Losses) (k : ℕ) : Type 0 where
   pub calls : AllKnown (known w) (inputs_at w k) → task.calls ≡ length (calls_below (apps_in w) (known w) (call_at w k))
   pub awaits : AllKnown (known w) (inputs_at w k) → task.awaits ≡ awaits (apps_in w) (known w) (call_at w k)
   pub kind : AllKnown (known w) (inputs_at w k) → task.kind ≡ kind_with (call_at w k).names (begin_at w k)
+  pub key : AllKnown (known w) (inputs_at w k) → task.key ≡ key_at w k
 
 pub knows-call : (w : Known) (losses : Losses) → Tracks w → FollowsEvaluation losses w → (k : ℕ) → k < length w.calls → KnowsCall w losses k
 knows-call w losses tracks e k lt =
@@ -86,7 +87,12 @@ knows-call w losses tracks e k lt =
       calls = λ h. ap length (calls-agree apps all (known w) c (agree h));
       awaits = λ h. awaits-agree apps all (known w) c (agree h);
       kind = λ h. ap (kind_with c.names) (begin-agrees apps all (known w) c (agree h));
+      key = λ h. ap (key_with c.names) (begin-agrees apps all (known w) c (agree h));
     }
+
+-- the key of its row
+pub row-key : (w : Known) (losses : Losses) (k : ℕ) → KnowsCall w losses k → AllKnown (known w) (inputs_at w k) → table_key (table w.tree losses) (path_at w k) ≡ key_at w k
+row-key w losses k c h = ap row_key c.is ∙ c.key h
 
 -- the rule of a call that is there, on the whole
 pub ruled-at : (w : Known) (losses : Losses) → IsTold w.tree → FollowsEvaluation losses w → (k : ℕ) → k < length w.calls → (there : HasTask (whole w.tree losses) (call_at w k)) → IsRuled (apps_in w) losses (whole w.tree losses) (task_of (call_at w k) there.outcome)

@@ -2,9 +2,13 @@ pub mod Places
 pub mod Growing
 pub mod Reading
 pub mod Knowing
+pub mod Memos
 pub mod Retelling
 pub mod KeepingPut
+pub mod States
 pub mod KeepingTasks
+pub mod Saving
+pub mod KeepingMemo
 pub mod KeepingSubmits
 pub mod KeepingMain
 pub mod KeepingEnd
@@ -17,7 +21,9 @@ pub mod Counting
 pub mod Passing
 pub mod Waits
 pub mod Pairing
+pub mod MemoLists
 pub mod Totals
+pub mod RunTotals
 pub mod RetoldConditions
 pub mod Telling
 pub mod SettledLogs

@@ -5,6 +5,7 @@ use Rattle.std.proofs.lemmas.List.{get_or_past, get_or-set_same, get_or-set_othe
 use Rattle.std.proofs.lemmas.Slice.Eq.{bytes_eq-Decides}
 use Rattle.flow_base.specs.declared.outcome.Outcome.{Outcome}
 use Rattle.flow_base.specs.declared.outcome.Outcome.TheVariants as o
+use Rattle.task_record.specs.declared.status.Status.{Status}
 use Rattle.task_record.specs.declared.status.Status.TheVariants as status
 use Rattle.task_record.specs.States.{is_settled}
 use Rattle.event_log.specs.declared.entry.Entry.{Entry}
@@ -13,9 +14,9 @@ use Rattle.flow_meaning.specs.Sequential.{Tasks, outcome_at}
 use Rattle.call_rules.specs.Calls.{Call}
 use Rattle.history_laws.specs.Reads.{settled}
 use Rattle.history_laws.specs.Tables.{status_of}
-use Rattle.history_laws.specs.Laws.{AllSettled, IsValued, AllValued}
+use Rattle.history_laws.specs.Laws.{AllSettled, IsValued, AllValued, state_with}
 use Rattle.kernel_model.specs.Known.{Known, Life, no_call, no_life, path_at, life_at, status_at, outcome_in, settled_outcome, known, known_in, tasks_where}
-use Rattle.kernel_model.specs.Invariants.{HasRun, Tracks}
+use Rattle.kernel_model.specs.Invariants.{HasRun, Tracks, is_memoised}
 use Rattle.kernel_model.specs.Acts.{put, pending}
 use Rattle.call_rules.specs.Groups.{AllKnown, IsValue, AllValues}
 
@@ -144,15 +145,21 @@ known-push [] (life ∷ lives) c same = absurd (omega arith)
 known-push (d ∷ cs) [] c same = absurd (omega arith)
 known-push (d ∷ cs) (life ∷ lives) c same = ap (λ (ts : Tasks). tasks_where d (outcome_in life) ++ ts) (known-push cs lives c (omega arith))
 
+-- the history has a settled task with this outcome
+pub record SettledSo (w : Known) (p : Path) (outcome : Outcome) : Type 0 where
+  pub status : Status
+  pub is : settled p w.past ≡ Some status
+  pub state : state_with (is_memoised status) (status_of outcome) ≡ Some status
+
 -- the history says how a task that is known was settled
-pub known-status : (w : Known) → Tracks w → (p : Path) (outcome : Outcome) → outcome_at (known w) p ≡ Some outcome → settled p w.past ≡ Some (status_of outcome)
+pub known-status : (w : Known) → Tracks w → (p : Path) (outcome : Outcome) → outcome_at (known w) p ≡ Some outcome → SettledSo w p outcome
 known-status w tracks p outcome h =
     let at = known-only w p outcome h in
     let k = at.place in
     let at_path : outcome_at (known w) (path_at w k) ≡ Some outcome = ap (outcome_at (known w)) at.is ∙ h in
     let both = life-outcome (life_at w k) outcome (sym (known-at w tracks k at.within) ∙ at_path) in
     let closed = (tracks.lived k at.within).closed both.0 in
-    ap (λ (q : Path). settled q w.past) (sym at.is) ∙ (closed.settled ∙ ap Some (closed.state outcome both.1))
+    record { status = status_at w k; is = ap (λ (q : Path). settled q w.past) (sym at.is) ∙ closed.settled; state = closed.state outcome both.1 }
 
 pub known-settled : (w : Known) → Tracks w → (ps : List Path) → AllKnown (known w) ps → AllSettled ps w.past
 known-settled w tracks [] h = tt
@@ -160,7 +167,12 @@ known-settled w tracks (p ∷ ps) h = (by_found (outcome_at (known w) p) refl h.
   where
     by_found : (found : Option Outcome) → outcome_at (known w) p ≡ found → IsSome found → IsSome (settled p w.past)
     by_found None e some = absurd (cc)
-    by_found (Some outcome) e some = rw (known-status w tracks p outcome e) refl
+    by_found (Some outcome) e some = rw (known-status w tracks p outcome e).is refl
+
+-- a value's task is in a state that has one
+pub state-valued : (m : Bool) (s : Status) → state_with m status.ExecDone ≡ Some s → IsValued (Some s)
+state-valued false s h = subst IsValued h tt
+state-valued true s h = subst IsValued h tt
 
 pub values-valued : (w : Known) → Tracks w → (ps : List Path) → AllValues (known w) ps → AllValued ps w.past
 values-valued w tracks [] h = tt
@@ -169,7 +181,7 @@ values-valued w tracks (p ∷ ps) h = (by_found (outcome_at (known w) p) refl h.
     by_found : (found : Option Outcome) → outcome_at (known w) p ≡ found → IsValue found → IsValued (settled p w.past)
     by_found None e valued = absurd valued
     by_found (Some (o.Failed exception)) e valued = absurd valued
-    by_found (Some (o.Value value files)) e valued = rw (known-status w tracks p (o.Value value files) e) tt
+    by_found (Some (o.Value value files)) e valued = let so = known-status w tracks p (o.Value value files) e in rw so.is (state-valued (is_memoised so.status) so.status so.state)
 
 -- ---- a pending task more
 
@@ -198,9 +210,9 @@ pub length-pushed : {A : Type 0} → (xs : List A) (x : A) → length (xs ++ x �
 length-pushed xs x = length-append xs (x ∷ [])
 
 -- the lives after a write
-pub put-cases : (w : Known) (k j : ℕ) (life : Life) (e : Entry) (P : ℕ → Life → Type 0) → k < length w.lives → P k life → (j ≢ k → P j (life_at w j)) → P j (life_at (put w k life e) j)
-put-cases w k j life e P within here other =
+pub set-cases : (w : Known) (k j : ℕ) (life : Life) (P : ℕ → Life → Type 0) → k < length w.lives → P k life → (j ≢ k → P j (life_at w j)) → P j (get_or (set w.lives k life) j no_life)
+set-cases w k j life P within here other =
     elim (cases_eq j k) [
-      | inl eq ↦ rw (eq, life-same w k life e within) here
-      | inr ne ↦ rw (life-other w k j life e ne) (other ne)
+      | inl eq ↦ rw (eq, get_or-set_same w.lives k life no_life within) here
+      | inr ne ↦ rw (get_or-set_other w.lives k j life no_life ne) (other ne)
     ]

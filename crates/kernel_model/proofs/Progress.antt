@@ -1,11 +1,13 @@
 -- Before the end some turn is ready.
 use Rattle.std.proofs.Common.{◌≡◌, ◌≢◌, ℕ, zero, suc, ◌+◌, ◌<◌, ◌≤◌, true, List, [], ◌∷◌, length, Option, Some, None, IsSome, refl, sym, ◌∙◌, ap, subst, arith}
-use Rattle.std.specs.Prelude.{slice_get, Result, nat_lt}
+use Rattle.std.specs.Prelude.{slice_get, Result, nat_lt, is_some}
 use Rattle.std.proofs.lemmas.Bool.Decides.{nat_tests}
 use Rattle.flow_base.specs.declared.value.Value.{Value, out-Value}
 use Rattle.flow_base.specs.declared.outcome.Ending.{Ending}
 use Rattle.flow_base.specs.declared.outcome.Exception.{Exception}
+use Rattle.flow_base.specs.declared.outcome.FileOut.{FileOut}
 use Rattle.flow_base.specs.declared.outcome.Outcome.{Outcome}
+use Rattle.flow_base.specs.declared.outcome.Outcome.TheVariants as o
 use Rattle.task_record.specs.declared.status.Status.{Status}
 use Rattle.task_record.specs.declared.status.Status.TheVariants as status
 use Rattle.flow_meaning.specs.declared.walk.Request.{Request}
@@ -17,12 +19,15 @@ use Rattle.flow_meaning.specs.Meaning.{Done}
 use Rattle.flow_meaning.specs.Sequential.{Task, outcome_at}
 use Rattle.body_requests.specs.Asks.{Each}
 use Rattle.call_rules.specs.Calls.{Call, child, found, task_of, call_in, calls_below, calls_with, awaited, join_dry, has_room}
+use Rattle.memo_table.specs.Keys.{KeyView}
+use Rattle.memo_table.specs.Table.{found as memo_found}
+use Rattle.memo_table.specs.declared.saved.Saved.{Saved}
 use Rattle.history_laws.specs.Reads.{submits, lost}
 use Rattle.kernel_model.specs.declared.answers.ScriptTurn.TheVariants as turn
 use Rattle.call_rules.specs.Groups.{IsEarlier, IsPlainOutcome, IsPlaced, first, below, AllKnown, HasTask}
-use Rattle.kernel_model.specs.Known.{Known, call_at, path_at, life_at, status_at, settled_outcome, inputs_at, known, main_left, apps_in, IsDone}
+use Rattle.kernel_model.specs.Known.{Known, call_at, path_at, life_at, status_at, settled_outcome, inputs_at, known, key_at, is_kept, main_left, apps_in, IsDone}
 use Rattle.kernel_model.specs.Invariants.{IsReached, IsOf, of_main, of_join, FollowsEvaluation, IsJoined, Inv}
-use Rattle.kernel_model.specs.Turns.{IsCallback, IsJoinDone, outcome_step, wait_step, act_step, unless_ended, script_step}
+use Rattle.kernel_model.specs.Turns.{IsCallback, IsJoinDone, IsStore, IsSettling, outcome_step, wait_step, act_step, unless_ended, script_step}
 use Rattle.call_rules.proofs.Tasks.{parent-same, child-same, length-child, same-some, found-known}
 use Rattle.call_rules.proofs.Agreeing.{calls-agree, begin-room}
 use Rattle.call_rules.proofs.Plain.{IsPlainKnown, ArePlain}
@@ -41,7 +46,36 @@ pub record IsIdle (w : Known) : Type 0 where
   pub callbacks : (k : ℕ) → IsCallback w k → ⊥
   pub joins : (k : ℕ) → IsJoinDone w k → ⊥
   pub launches : (k : ℕ) → status_at w k ≢ status.Launched
-  pub ends : (k : ℕ) → status_at w k ≢ status.RunningEnded
+  pub stores : (k : ℕ) (key : KeyView) (saved : Saved) → IsStore w k key saved → ⊥
+  pub ends : (k : ℕ) (outcome : Outcome) → IsSettling w k outcome → ⊥
+
+-- where an attempt is over, its value is to be stored, or its task is to be settled
+pub ended-ready : (w : Known) (k : ℕ) → status_at w k ≡ status.RunningEnded → IsSome (life_at w k).end → ((key : KeyView) (saved : Saved) → IsStore w k key saved → ⊥) → ((outcome : Outcome) → IsSettling w k outcome → ⊥) → ⊥
+ended-ready w k over some no_store no_settling = by_end (life_at w k).end refl some
+  where
+    -- it is settled, unless its key isn't found
+    kept : (outcome : Outcome) → (life_at w k).end ≡ Some outcome → is_kept w.memo (key_at w k) outcome ≡ true → ⊥
+    kept outcome is h = no_settling outcome (record { over = over; is = is; kept = h })
+
+    by_found : (key : KeyView) (value : Value) (files : List FileOut) → (life_at w k).end ≡ Some (o.Value value files) → key_at w k ≡ Some key → (r : Option Saved) → memo_found w.memo key ≡ r → ⊥
+    by_found key value files is has None e = no_store key (record { value = value; files = files }) (record { over = over; key_is = has; is = is; fresh = e })
+    by_found key value files is has (Some saved) e = kept (o.Value value files) is (ap (λ (r : Option KeyView). is_kept w.memo r (o.Value value files)) has ∙ ap is_some e)
+
+    by_key : (value : Value) (files : List FileOut) → (life_at w k).end ≡ Some (o.Value value files) → (r : Option KeyView) → key_at w k ≡ r → ⊥
+    by_key value files is None e = kept (o.Value value files) is (ap (λ (r : Option KeyView). is_kept w.memo r (o.Value value files)) e)
+    by_key value files is (Some key) e = by_found key value files is e (memo_found w.memo key) refl
+
+    failed : (exception : Exception) (r : Option KeyView) → is_kept w.memo r (o.Failed exception) ≡ true
+    failed exception None = refl
+    failed exception (Some key) = refl
+
+    by_outcome : (outcome : Outcome) → (life_at w k).end ≡ Some outcome → ⊥
+    by_outcome (o.Value value files) is = by_key value files is (key_at w k) refl
+    by_outcome (o.Failed exception) is = kept (o.Failed exception) is (failed exception (key_at w k))
+
+    by_end : (r : Option Outcome) → (life_at w k).end ≡ r → IsSome r → ⊥
+    by_end None e h = absurd (cc)
+    by_end (Some outcome) e h = by_outcome outcome e
 
 module _ (w : Known) (inv : Inv w) where
   -- the evaluation under the losses of the history
@@ -164,10 +198,10 @@ module _ (w : Known) (inv : Inv w) where
         by_status status.Pending is reached = pending is
         by_status status.Launched is reached = absurd (idle.launches k is)
         by_status status.Running is reached = absurd (idle.none_runs k is)
-        by_status status.RunningEnded is reached = absurd (idle.ends k is)
+        by_status status.RunningEnded is reached = absurd (ended-ready w k is reached.0 (idle.stores k) (idle.ends k))
         by_status status.Joining is reached = joining is reached
         by_status status.ExecDone is reached = rw is reached
-        by_status status.MemoDone is reached = absurd reached
+        by_status status.MemoDone is reached = rw is reached
         by_status status.Failed is reached = rw is reached
         by_status status.DepFail is reached = rw is reached
         by_status status.FailRetryable is reached = absurd reached

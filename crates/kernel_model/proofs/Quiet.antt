@@ -15,10 +15,11 @@ use Rattle.flow_meaning.specs.Inputs.{Path, path_in}
 use Rattle.flow_meaning.specs.Meaning.{Done}
 use Rattle.flow_meaning.specs.Sequential.{outcome_at}
 use Rattle.call_rules.specs.Calls.{Call, Begin, Fails, Attempts, Joins, join_dry}
+use Rattle.memo_table.specs.declared.saved.Saved.{Saved}
 use Rattle.history_laws.specs.Tables.{status_of}
-use Rattle.kernel_model.specs.Known.{Known, Life, no_life, path_at, life_at, status_at, known, begin_at, word_of, main_left, apps_in}
-use Rattle.kernel_model.specs.Acts.{put, pending, submitted, all_submitted, started, finished, settled_as, joining}
-use Rattle.kernel_model.specs.Turns.{CarriesOut, begins, ends, carried_out, unsettled_step, outcome_step, wait_step, request_step, act_step, unless_ended, script_step, SettleTurn, EndTurn}
+use Rattle.kernel_model.specs.Known.{Known, Life, no_life, path_at, life_at, status_at, known, begin_at, saved_at, word_of, main_left, apps_in}
+use Rattle.kernel_model.specs.Acts.{put, pending, submitted, all_submitted, started, finished, settled_as, hit, joining}
+use Rattle.kernel_model.specs.Turns.{CarriesOut, begins, ends, attempted, carried_out, unsettled_step, outcome_step, wait_step, request_step, act_step, unless_ended, script_step, StoreTurn, SettleTurn, EndTurn}
 use Rattle.kernel_model.specs.Work.{NoneRuns}
 use Rattle.kernel_model.proofs.Places.{life-same, life-other, status-within}
 use Rattle.kernel_model.proofs.KeepingTasks.{by-state}
@@ -86,9 +87,13 @@ callback-runs-none w v same (begins k callback after) none = subst NoneRuns (sym
     within : k < length w.calls
     within = status-within w same k (λ h. absurd (let is = callback.pending in cc))
 
+    by_saved : (r : Option Saved) → NoneRuns (attempted w k r)
+    by_saved None = put_none w k _ (entry.Launch (path_at w k) ((life_at w k).attempts + 1)) within same (λ h. cc) (λ j ne. none j)
+    by_saved (Some saved) = put_none (hit w k) k _ (entry.Settled (path_at w k) status.MemoDone) within same (λ h. cc) (λ j ne. none j)
+
     by_begin : (b : Begin) → NoneRuns (carried_out w k b)
     by_begin (Fails exception) = settled_none w k (o.Failed exception) within same none
-    by_begin (Attempts app values) = put_none w k _ (entry.Launch (path_at w k) ((life_at w k).attempts + 1)) within same (λ h. cc) (λ j ne. none j)
+    by_begin (Attempts app values) = by_saved (saved_at w k)
     by_begin (Joins app values) = submits_none (joining w k (join_dry (apps_in w) (path_at w k) app values)) (join_dry (apps_in w) (path_at w k) app values).1 (put_none w k _ (entry.JoinRun (path_at w k)) within same (λ h. cc) (λ j ne. none j))
 callback-runs-none w v same (ends k is after) none = subst NoneRuns (sym after) (settled_none w k _ (status-within w same k (λ h. absurd (let at = is.joining in cc))) same none)
 
@@ -98,8 +103,12 @@ finish-runs-none w k outcome same is none =
     put_none (started w k) k _ (entry.Ended (path_at w k) (life_at (started w k) k).attempts 1 (word_of outcome)) within (length-set w.lives k _ ∙ same) (λ h. cc)
     (λ j ne. subst DoesNotRun (sym (life-other w k j _ (entry.Start (path_at w k) (life_at w k).attempts 1) ne)) (none j))
 
+pub store-runs-none : (w v : Known) (did : Bool) → StoreTurn w did v → NoneRuns w → NoneRuns v
+store-runs-none w v true did none = subst NoneRuns (sym did.after) none
+store-runs-none w v false did none = subst NoneRuns (sym did.1) none
+
 pub settle-runs-none : (w v : Known) (did : Bool) → length w.lives ≡ length w.calls → SettleTurn w did v → NoneRuns w → NoneRuns v
-settle-runs-none w v true same did none = subst NoneRuns (sym did.after) (settled_none w did.task did.outcome (status-within w same did.task (λ h. absurd (let at = did.over in cc))) same none)
+settle-runs-none w v true same did none = subst NoneRuns (sym did.after) (settled_none w did.task did.outcome (status-within w same did.task (λ h. absurd (let at = did.ready.over in cc))) same none)
 settle-runs-none w v false same did none = subst NoneRuns (sym did.1) none
 
 pub end-runs-none : (w v : Known) (did : Bool) → EndTurn w did v → NoneRuns w → NoneRuns v

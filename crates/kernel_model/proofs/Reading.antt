@@ -24,6 +24,8 @@ IsOfTask (entry.Launch q n) p = q ≡ p
 IsOfTask (entry.Start q n manager) p = q ≡ p
 IsOfTask (entry.Ended q n manager kind) p = q ≡ p
 IsOfTask (entry.Settled q s) p = q ≡ p
+IsOfTask (entry.MemoHit q) p = q ≡ p
+IsOfTask (entry.Stored q) p = q ≡ p
 IsOfTask _ p = ⊥
 
 pub path-same : (p : Path) → bytes_eq p p ≡ true
@@ -39,6 +41,17 @@ path-other p q ne = by_test (bytes_eq p q) refl
 other_path : (q p o : Path) → q ≡ p → o ≢ p → bytes_eq o q ≡ false
 other_path q p o is ne = path-other o q (λ e. ne (e ∙ is))
 
+-- what is stored changes nothing of a task's life
+pub stored-life : (r : Retries) (q p : Path) (b : History) (life : Life) → IsLife r p b life → IsLife r p (entry.Stored q ∷ b) life
+stored-life r q p b life h = record {
+  reached = h.reached;
+  first = h.first;
+  joined = h.joined;
+  hit = h.hit;
+  opened = λ t. let a = h.opened t in record { attempts = a.attempts; costs = a.costs; stage = a.stage; last = a.last; unsettled = a.unsettled };
+  closed = λ t. let c = h.closed t in record { settled = c.settled; state = c.state };
+}
+
 -- it changes nothing of another task
 pub other-life : (r : Retries) (e : Entry) (p o : Path) (b : History) (life : Life) → IsOfTask e p → o ≢ p → IsLife r o b life → IsLife r o (e ∷ b) life
 other-life r (entry.JoinRun q) p o b life is ne h =
@@ -46,6 +59,7 @@ other-life r (entry.JoinRun q) p o b life is ne h =
       reached = h.reached;
       first = h.first;
       joined = rw n h.joined;
+      hit = h.hit;
       opened = λ t. let a = h.opened t in record { attempts = a.attempts; costs = a.costs; stage = a.stage; last = a.last; unsettled = a.unsettled };
       closed = λ t. let c = h.closed t in record { settled = c.settled; state = c.state };
     }
@@ -54,6 +68,7 @@ other-life r (entry.Launch q m) p o b life is ne h =
       reached = h.reached;
       first = h.first;
       joined = h.joined;
+      hit = h.hit;
       opened = λ t. let a = h.opened t in record { attempts = rw n a.attempts; costs = a.costs; stage = rw n a.stage; last = rw n a.last; unsettled = a.unsettled };
       closed = λ t. let c = h.closed t in record { settled = c.settled; state = c.state };
     }
@@ -62,6 +77,7 @@ other-life r (entry.Start q m manager) p o b life is ne h =
       reached = h.reached;
       first = h.first;
       joined = h.joined;
+      hit = h.hit;
       opened = λ t. let a = h.opened t in record { attempts = a.attempts; costs = a.costs; stage = rw n a.stage; last = a.last; unsettled = a.unsettled };
       closed = λ t. let c = h.closed t in record { settled = c.settled; state = c.state };
     }
@@ -70,6 +86,7 @@ other-life r (entry.Ended q m manager kind) p o b life is ne h =
       reached = h.reached;
       first = h.first;
       joined = h.joined;
+      hit = h.hit;
       opened = λ t. let a = h.opened t in record { attempts = a.attempts; costs = rw n a.costs; stage = rw n a.stage; last = rw n a.last; unsettled = a.unsettled };
       closed = λ t. let c = h.closed t in record { settled = c.settled; state = c.state };
     }
@@ -78,16 +95,25 @@ other-life r (entry.Settled q s) p o b life is ne h =
       reached = h.reached;
       first = h.first;
       joined = h.joined;
+      hit = h.hit;
       opened = λ t. let a = h.opened t in record { attempts = a.attempts; costs = a.costs; stage = a.stage; last = a.last; unsettled = rw n a.unsettled };
       closed = λ t. let c = h.closed t in record { settled = rw n c.settled; state = c.state };
     }
+other-life r (entry.MemoHit q) p o b life is ne h =
+    let n = other_path q p o is ne in record {
+      reached = h.reached;
+      first = h.first;
+      joined = h.joined;
+      hit = rw n h.hit;
+      opened = λ t. let a = h.opened t in record { attempts = a.attempts; costs = a.costs; stage = a.stage; last = a.last; unsettled = a.unsettled };
+      closed = λ t. let c = h.closed t in record { settled = c.settled; state = c.state };
+    }
+other-life r (entry.Stored q) p o b life is ne h = stored-life r q o b life h
 other-life r (entry.Submit q app) p o b life is ne h = absurd is
 other-life r entry.End p o b life is ne h = absurd is
-other-life r (entry.MemoHit q) p o b life is ne h = absurd is
 other-life r (entry.Dispatch q n manager) p o b life is ne h = absurd is
 other-life r (entry.Held q n manager) p o b life is ne h = absurd is
 other-life r (entry.LostTry q n manager) p o b life is ne h = absurd is
-other-life r (entry.Stored q) p o b life is ne h = absurd is
 other-life r (entry.Block block state) p o b life is ne h = absurd is
 other-life r (entry.Register manager block slots) p o b life is ne h = absurd is
 other-life r (entry.Refused block version) p o b life is ne h = absurd is
@@ -109,11 +135,11 @@ task-submits (entry.Ended q n manager kind) p b is = refl
 task-submits (entry.Settled q s) p b is = refl
 task-submits (entry.Submit q app) p b is = absurd is
 task-submits entry.End p b is = absurd is
-task-submits (entry.MemoHit q) p b is = absurd is
+task-submits (entry.MemoHit q) p b is = refl
 task-submits (entry.Dispatch q n manager) p b is = absurd is
 task-submits (entry.Held q n manager) p b is = absurd is
 task-submits (entry.LostTry q n manager) p b is = absurd is
-task-submits (entry.Stored q) p b is = absurd is
+task-submits (entry.Stored q) p b is = refl
 task-submits (entry.Block block state) p b is = absurd is
 task-submits (entry.Register manager block slots) p b is = absurd is
 task-submits (entry.Refused block version) p b is = absurd is
@@ -135,11 +161,11 @@ task-submitted (entry.Ended q n manager kind) p b o is = refl
 task-submitted (entry.Settled q s) p b o is = refl
 task-submitted (entry.Submit q app) p b o is = absurd is
 task-submitted entry.End p b o is = absurd is
-task-submitted (entry.MemoHit q) p b o is = absurd is
+task-submitted (entry.MemoHit q) p b o is = refl
 task-submitted (entry.Dispatch q n manager) p b o is = absurd is
 task-submitted (entry.Held q n manager) p b o is = absurd is
 task-submitted (entry.LostTry q n manager) p b o is = absurd is
-task-submitted (entry.Stored q) p b o is = absurd is
+task-submitted (entry.Stored q) p b o is = refl
 task-submitted (entry.Block block state) p b o is = absurd is
 task-submitted (entry.Register manager block slots) p b o is = absurd is
 task-submitted (entry.Refused block version) p b o is = absurd is
@@ -161,11 +187,11 @@ task-ends (entry.Ended q n manager kind) p b is = refl
 task-ends (entry.Settled q s) p b is = refl
 task-ends (entry.Submit q app) p b is = absurd is
 task-ends entry.End p b is = absurd is
-task-ends (entry.MemoHit q) p b is = absurd is
+task-ends (entry.MemoHit q) p b is = refl
 task-ends (entry.Dispatch q n manager) p b is = absurd is
 task-ends (entry.Held q n manager) p b is = absurd is
 task-ends (entry.LostTry q n manager) p b is = absurd is
-task-ends (entry.Stored q) p b is = absurd is
+task-ends (entry.Stored q) p b is = refl
 task-ends (entry.Block block state) p b is = absurd is
 task-ends (entry.Register manager block slots) p b is = absurd is
 task-ends (entry.Refused block version) p b is = absurd is
@@ -185,6 +211,7 @@ submit-life r q app p b life h = record {
   reached = h.reached;
   first = h.first;
   joined = h.joined;
+  hit = h.hit;
   opened = λ t. let a = h.opened t in record { attempts = a.attempts; costs = a.costs; stage = a.stage; last = a.last; unsettled = a.unsettled };
   closed = λ t. let c = h.closed t in record { settled = c.settled; state = c.state };
 }
@@ -194,6 +221,7 @@ end-life r p b life h = record {
   reached = h.reached;
   first = h.first;
   joined = h.joined;
+  hit = h.hit;
   opened = λ t. let a = h.opened t in record { attempts = a.attempts; costs = a.costs; stage = a.stage; last = a.last; unsettled = a.unsettled };
   closed = λ t. let c = h.closed t in record { settled = c.settled; state = c.state };
 }

@@ -1,5 +1,5 @@
 -- Nothing that a kernel keeps, or does, reads what the monitors were told.
-use Rattle.std.proofs.Common.{◌≡◌, ℕ, Bool, true, false, List, [], ◌∷◌, Option, Some, None, refl}
+use Rattle.std.proofs.Common.{◌≡◌, ℕ, Bool, true, false, List, [], ◌∷◌, Option, Some, None, refl, ap}
 use Rattle.std.specs.Prelude.{Result}
 use Rattle.flow_base.specs.declared.value.Value.{out-Value}
 use Rattle.flow_base.specs.declared.outcome.Ending.{Ending}
@@ -13,11 +13,13 @@ use Rattle.flow_meaning.specs.Inputs.{Path, path_in}
 use Rattle.flow_meaning.specs.Meaning.{Done}
 use Rattle.flow_meaning.specs.Sequential.{outcome_at}
 use Rattle.call_rules.specs.Calls.{Losses, Call}
+use Rattle.memo_table.specs.Keys.{KeyView}
+use Rattle.memo_table.specs.declared.saved.Saved.{Saved}
 use Rattle.kernel_model.specs.Known.{Known, known, main_left, IsDone}
-use Rattle.kernel_model.specs.Invariants.{IsCall, IsOf, of_main, of_join, IsDue, FitsAt, FitsLosses, FollowsEvaluation, IsAttempted, IsJoined, Inv}
+use Rattle.kernel_model.specs.Invariants.{IsCall, IsOf, of_main, of_join, IsDue, FitsAt, FitsLosses, FollowsEvaluation, IsAttempted, IsJoined, IsTaskKey, Inv}
 use Rattle.kernel_model.specs.Acts.{retold}
 use Rattle.kernel_model.specs.Jobs.{JobView}
-use Rattle.kernel_model.specs.Turns.{IsCallback, IsJoinDone, IsRunning, Step, unsettled_step, outcome_step, wait_step, request_step, act_step, unless_ended, script_step}
+use Rattle.kernel_model.specs.Turns.{IsCallback, IsJoinDone, IsRunning, IsStore, Stores, IsSettling, Step, unsettled_step, outcome_step, wait_step, request_step, act_step, unless_ended, script_step}
 use Rattle.kernel_model.specs.Work.{HasRoom, NoneRuns}
 use Rattle.kernel_model.specs.Evaluated.{evaluated}
 use Rattle.kernel_model.specs.Limits.{passed}
@@ -59,6 +61,9 @@ module _ (w : Known) (told : List (List Settlement)) where
     children = λ i c at few. call_retold c (h.children i c at few);
   }
 
+  task_key_retold : (key : KeyView) → IsTaskKey w key → IsTaskKey (retold told w) key
+  task_key_retold key t = record { place = t.place; within = t.within; inputs = t.inputs; is = t.is }
+
   pub done-retold : IsDone w → IsDone (retold told w)
   done-retold d = record { over = d.over; settled = d.settled }
 
@@ -69,12 +74,20 @@ module _ (w : Known) (told : List (List Settlement)) where
       record {
         holds = record {
           told = h.told;
+          texts = h.texts;
           tracks = record { lives = t.lives; distinct = t.distinct; there = t.there; lived = t.lived; none = t.none; begun = t.begun; family = λ k lt. of_retold k (t.family k lt) };
           runs = record { attempted = λ k r. attempted_retold k (h.runs.attempted k r); ended = h.runs.ended };
           joins = record {
             ran = λ k result g. joined_retold k result (h.joins.ran k result g);
             settled = h.joins.settled;
             is_due = λ p n g. due_retold p n (h.joins.is_due p n g);
+          };
+          memo = record {
+            once = h.memo.once;
+            values = h.memo.values;
+            made = λ key g. task_key_retold key (h.memo.made key g);
+            kept = h.memo.kept;
+            told = λ losses fits. h.memo.told losses (fits_back losses fits);
           };
           main = record { asks = h.main.asks; mains = h.main.mains; called = h.main.called; waits = h.main.waits; ended = h.main.ended };
           right = record {
@@ -98,6 +111,15 @@ module _ (w : Known) (told : List (List Settlement)) where
 
   pub running-retold : (job : JobView) (k : ℕ) → IsRunning w job k → IsRunning (retold told w) job k
   running-retold job k h = record { running = h.running; is = h.is }
+
+  pub store-retold : (k : ℕ) (key : KeyView) (saved : Saved) → IsStore w k key saved → IsStore (retold told w) k key saved
+  store-retold k key saved h = record { over = h.over; key_is = h.key_is; is = h.is; fresh = h.fresh }
+
+  pub stores-retold : (v : Known) → Stores w v → Stores (retold told w) (retold told v)
+  stores-retold v did = record { task = did.task; key = did.key; saved = did.saved; store = store-retold did.task did.key did.saved did.store; after = ap (retold told) did.after }
+
+  pub settling-retold : (k : ℕ) (outcome : Outcome) → IsSettling w k outcome → IsSettling (retold told w) k outcome
+  settling-retold k outcome h = record { over = h.over; is = h.is; kept = h.kept }
 
   pub room-retold : (n : ℕ) → HasRoom n w → HasRoom n (retold told w)
   room-retold n h = record { entries = h.entries; answers = h.answers }

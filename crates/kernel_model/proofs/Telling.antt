@@ -23,15 +23,16 @@ use Rattle.flow_meaning.specs.Inputs.{Path, path_in}
 use Rattle.flow_meaning.specs.Meaning.{Done}
 use Rattle.flow_meaning.specs.Sequential.{Tasks, outcome_at}
 use Rattle.call_rules.specs.Calls.{Call, Dry, Begin, Fails, Attempts, Joins, join_dry}
+use Rattle.memo_table.specs.declared.saved.Saved.{Saved}
 use Rattle.history_laws.specs.Reads.{History, settled, has_end}
 use Rattle.history_laws.specs.Tables.{status_of}
 use Rattle.kernel_model.specs.declared.answers.Refusal.{Refusal}
 use Rattle.kernel_model.specs.declared.answers.Refusal.TheVariants.{NoMemory, TaskLimit, StoreLimit}
-use Rattle.kernel_model.specs.Known.{Known, Life, no_call, path_at, life_at, status_at, outcome_in, settled_outcome, known, begin_at, main_left, apps_in, has_ended}
+use Rattle.kernel_model.specs.Known.{Known, Life, no_call, path_at, life_at, status_at, outcome_in, settled_outcome, known, begin_at, saved_at, value_of, main_left, apps_in, has_ended}
 use Rattle.kernel_model.specs.Invariants.{IsReached, Tracks, Inv}
-use Rattle.kernel_model.specs.Acts.{started_with, pending, submitted, all_submitted, call_of, put, settlement_of, settled_as, retold, joining, joined, over, refused}
+use Rattle.kernel_model.specs.Acts.{started_with, pending, submitted, all_submitted, call_of, put, settlement_as, settled_in, settled_as, recalled, retold, joining, joined, over, refused}
 use Rattle.kernel_model.specs.Jobs.{JobView, DoneView}
-use Rattle.kernel_model.specs.Turns.{CarriesOut, begins, ends, carried_out, Fetches, Takes, Settles, unsettled_step, outcome_step, wait_step, request_step, act_step, unless_ended, script_step}
+use Rattle.kernel_model.specs.Turns.{CarriesOut, begins, ends, attempted, carried_out, Fetches, Takes, Stores, Settles, unsettled_step, outcome_step, wait_step, request_step, act_step, unless_ended, script_step}
 use Rattle.std.specs.List.{filter}
 use Rattle.kernel_model.specs.Telling.{is_settling, settlement_with, settlement_in, settlements_in, settlements, tell_all, AreTold, HasTold}
 use Rattle.kernel_model.proofs.Places.{life-same, life-other, known_in-at, known-at, known-only, known-put, known-push, length-pushed, status-within}
@@ -116,7 +117,7 @@ ended_by : (life : Life) (s : Status) → is_settled s ≡ true → IsReached li
 ended_by life status.ExecDone is reached = reached
 ended_by life status.Failed is reached = reached
 ended_by life status.DepFail is reached = reached
-ended_by life status.MemoDone is reached = absurd reached
+ended_by life status.MemoDone is reached = reached
 ended_by life status.FailRetryable is reached = absurd reached
 ended_by life status.Unsched is reached = absurd (cc)
 ended_by life status.Pending is reached = absurd (cc)
@@ -228,25 +229,31 @@ put_kept w k life e tw unsettled p outcome h =
     ∙ known_in-at w.calls (put w k life e).lives (length-set w.lives k life ∙ tw.lives) tw.distinct j at.within
     ∙ ap outcome_in (life-other w k j life e other) ∙ was
 
--- exactly this settlement is new
-pub settled-told : (w : Known) (k : ℕ) (outcome : Outcome) → Tracks w → w.refusal ≡ None → k < length w.calls → is_settled (status_at w k) ≡ false → HasTold w (settled_as w k outcome)
-settled-told w k outcome tw none within unsettled =
+-- exactly this settlement is new, where other entries before it settle nothing
+told_in : (w : Known) (past : History) (k : ℕ) (state : Status) (outcome : Outcome) → ((ts : Tasks) → settlements_in ts past ≡ settlements_in ts w.past) → is_settled state ≡ true → Tracks w → w.refusal ≡ None → k < length w.calls → is_settled (status_at w k) ≡ false
+    → HasTold w (settled_in (record w { past = past }) k state outcome)
+told_in w past k state outcome listed is tw none within unsettled =
     let p : Path = path_at w k in
-    let state = status_of outcome in
     let life : Life = record (life_at w k) { status = state; end = Some outcome } in
     let e : Entry = entry.Settled p state in
     let v : Known = put w k life e in
-    let is : is_settled state ≡ true = by-state (λ s. is_settled s ≡ true) refl refl refl outcome in
     let placed : k < length w.lives = (let lives = tw.lives in omega arith) in
     let has : settled_outcome v k ≡ Some outcome = ap outcome_in (life-same w k life e placed) ∙ rw is refl in
     let found : outcome_at (known v) p ≡ Some outcome = known_in-at w.calls v.lives (length-set w.lives k life ∙ tw.lives) tw.distinct k within ∙ has in
     record {
-      new = settlement_of w k outcome ∷ [];
+      new = settlement_as w k state outcome ∷ [];
       since =
-          ap (λ (l : List Settlement). l ++ settlement_with p state (outcome_at (known v) p)) (settlements-kept w v tw (put_kept w k life e tw unsettled))
+          ap (λ (l : List Settlement). l ++ settlement_with p state (outcome_at (known v) p)) (listed (known v) ∙ settlements-kept w v tw (put_kept w k life e tw unsettled))
           ∙ ap (λ (r : Option Outcome). settlements w ++ settlement_with p state r) found;
       told = all_told w.refusal _ _ none refl;
     }
+
+pub settled-told : (w : Known) (k : ℕ) (outcome : Outcome) → Tracks w → w.refusal ≡ None → k < length w.calls → is_settled (status_at w k) ≡ false → HasTold w (settled_as w k outcome)
+settled-told w k outcome = told_in w w.past k (status_of outcome) outcome (λ ts. refl) (by-state (λ s. is_settled s ≡ true) refl refl refl outcome)
+
+-- a value from the memo settles its task in a state of its own
+pub recalled-told : (w : Known) (k : ℕ) (saved : Saved) → Tracks w → w.refusal ≡ None → k < length w.calls → is_settled (status_at w k) ≡ false → HasTold w (recalled w k saved)
+recalled-told w k saved = told_in w (entry.MemoHit (path_at w k) ∷ w.past) k status.MemoDone (value_of saved) (λ ts. append-nil (settlements_in ts w.past)) refl
 
 -- ---- each turn
 
@@ -301,9 +308,13 @@ settled_at w k s outcome inv none is begun unsettled = settled-told w k outcome 
 pub callback-told : (w v : Known) → Inv w → w.refusal ≡ None → CarriesOut w v → HasTold w v
 callback-told w v inv none (begins k callback after) = subst (HasTold w) (sym after) (by_begin (begin_at w k))
   where
+    by_saved : (r : Option Saved) → HasTold w (attempted w k r)
+    by_saved None = same_told w _ none (put_same w k _ (entry.Launch (path_at w k) ((life_at w k).attempts + 1)) (open_outcome w k status.Pending callback.pending refl) (λ ts. refl))
+    by_saved (Some saved) = recalled-told w k saved inv.holds.tracks none (within_at w inv.holds.tracks k status.Pending callback.pending (λ e. absurd (cc))) (ap is_settled callback.pending)
+
     by_begin : (b : Begin) → HasTold w (carried_out w k b)
     by_begin (Fails exception) = settled_at w k status.Pending (o.Failed exception) inv none callback.pending (λ e. absurd (cc)) refl
-    by_begin (Attempts app values) = same_told w _ none (put_same w k _ (entry.Launch (path_at w k) ((life_at w k).attempts + 1)) (open_outcome w k status.Pending callback.pending refl) (λ ts. refl))
+    by_begin (Attempts app values) = by_saved (saved_at w k)
     by_begin (Joins app values) = same_told w _ none (joined_same w k (join_dry (apps_in w) (path_at w k) app values) inv.holds.tracks.lives callback.pending)
 callback-told w v inv none (ends k is after) = subst (HasTold w) (sym after) (settled_at w k status.Joining _ inv none is.joining (λ e. absurd (cc)) refl)
 
@@ -317,8 +328,12 @@ deliver-told w done v none did =
     let k = did.task in
     subst (HasTold w) (sym did.after) (same_told w _ none (put_same w k _ _ (open_outcome w k status.Running did.running.running refl) (λ ts. refl)))
 
+-- no monitor is told of what is stored
+pub store-told : (w v : Known) → w.refusal ≡ None → Stores w v → HasTold w v
+store-told w v none did = subst (HasTold w) (sym did.after) (same_told w _ none (record { refusal = refl; told = refl; listed = append-nil (settlements w) }))
+
 pub settle-told : (w v : Known) → Inv w → w.refusal ≡ None → Settles w v → HasTold w v
-settle-told w v inv none did = subst (HasTold w) (sym did.after) (settled_at w did.task status.RunningEnded did.outcome inv none did.over (λ e. absurd (cc)) refl)
+settle-told w v inv none did = subst (HasTold w) (sym did.after) (settled_at w did.task status.RunningEnded did.outcome inv none did.ready.over (λ e. absurd (cc)) refl)
 
 pub end-told : (w : Known) → w.refusal ≡ None → HasTold w (over w)
 end-told w none = same_told w (over w) none (record { refusal = refl; told = refl; listed = append-nil (settlements w) })

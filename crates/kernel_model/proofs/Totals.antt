@@ -1,5 +1,5 @@
--- A kernel has no more calls and stores no more units than its evaluation, and in the end as many.
-use Rattle.std.proofs.Common.{◌≡◌, ◌≤◌, List, [], ◌∷◌, length, map, sum, Some, None, refl, sym, ◌∙◌, ap, arith}
+-- A kernel has no more calls than its evaluation and, the memo aside, stores no more units, and in the end as many.
+use Rattle.std.proofs.Common.{◌≡◌, ℕ, ◌+◌, ◌≤◌, List, [], ◌∷◌, length, map, sum, refl, sym, ◌∙◌, ap, arith}
 use Rattle.std.specs.Prelude.{Result}
 use Rattle.flow_base.specs.declared.value.Value.{Value, out-Value}
 use Rattle.flow_base.specs.declared.outcome.Exception.{Exception}
@@ -10,18 +10,16 @@ use Rattle.flow_meaning.specs.Act.{Act, Give, Throw, Ask}
 use Rattle.flow_meaning.specs.Inputs.{Path, path_in}
 use Rattle.flow_meaning.specs.Meaning.{Done}
 use Rattle.flow_meaning.specs.Sequential.{Tasks, Main, Rule, Sequential, perform, main_answer, waits, seq}
-use Rattle.stored_units.specs.declared.units.Limit.TheVariants as limit
-use Rattle.stored_units.specs.Totals.{units_of_task, total_units, IsWithinLimits}
+use Rattle.stored_units.specs.Totals.{units_of_task, total_units}
 use Rattle.call_rules.specs.Calls.{Losses}
 use Rattle.call_rules.specs.Orders.{in_order}
 use Rattle.call_rules.specs.Told.{whole_ran, whole}
 use Rattle.history_laws.specs.Reads.{lost}
 use Rattle.kernel_model.specs.Known.{Known, path_at, known, main_rule, main_left, printed_in, IsDone}
 use Rattle.kernel_model.specs.Invariants.{FollowsEvaluation, Inv}
-use Rattle.kernel_model.specs.Limits.{stored, passed}
+use Rattle.kernel_model.specs.Limits.{units_of_call, units_of_life}
 use Rattle.call_rules.proofs.Tasks.{outcome-found, same-some}
 use Rattle.kernel_model.proofs.Counting.{sum-push}
-use Rattle.kernel_model.proofs.Passing.{passed-none, passed-tasks, passed-stored}
 use Rattle.kernel_model.proofs.Pairing.{ArePaired, AreWithin, within-tasks, known-no_more, order-count, order-total}
 use Rattle.kernel_model.proofs.KeepingEnd.{ended-same, some-value}
 use Rattle.kernel_model.proofs.Whole.{tasks-same}
@@ -50,6 +48,10 @@ performs_prints r (Ask w go) m = let more = answers_print w in let rest = perfor
 abbrev pub evaluation_of : Known → Sequential
 evaluation_of w = seq w.tree.0 w.tree.1 (lost w.past)
 
+-- what is stored beside the memo
+abbrev pub seen_units : Known → ℕ
+seen_units w = sum (map units_of_call w.calls) + sum (map units_of_life w.lives) + sum (map units (printed_in w.acts))
+
 paired : (w : Known) (losses : Losses) → FollowsEvaluation losses w → ArePaired (whole w.tree losses) w.calls w.lives
 paired w losses e k lt =
     let there = e.placed k lt in
@@ -74,16 +76,9 @@ pub calls-within : (w : Known) → Inv w → length w.calls ≤ length (evaluati
 unfolding seq
 calls-within w inv = (tasks_within w inv).count
 
-pub stored-within : (w : Known) → Inv w → stored w ≤ total_units (evaluation_of w)
+pub units-within : (w : Known) → Inv w → seen_units w ≤ total_units (evaluation_of w)
 unfolding seq
-stored-within w inv = omega (arith, (tasks_within w inv).total, printed_within w inv)
-
--- a run past a limit is that of an evaluation past it
-pub past-tasks : (w : Known) → Inv w → passed w ≡ Some limit.Tasks → IsWithinLimits (evaluation_of w) → ⊥
-past-tasks w inv past small = let many = (passed-tasks w).0 past in let few = small.few in let within = calls-within w inv in absurd (omega arith)
-
-pub past-store : (w : Known) → Inv w → passed w ≡ Some limit.Stored → IsWithinLimits (evaluation_of w) → ⊥
-past-store w inv past small = let many = ((passed-stored w).0 past).1 in let few = small.small in let within = stored-within w inv in absurd (omega arith)
+units-within w inv = omega (arith, (tasks_within w inv).total, printed_within w inv)
 
 -- ---- at the end
 
@@ -102,9 +97,9 @@ pub calls-done : (w : Known) → Inv w → IsDone w → length (evaluation_of w)
 unfolding seq
 calls-done w inv done = omega (arith, ap length (tasks_done w inv done), order-count (known w), (known-no_more w.calls w.lives).count)
 
-pub stored-done : (w : Known) → Inv w → IsDone w → total_units (evaluation_of w) ≤ stored w
+units_done : (w : Known) → Inv w → IsDone w → total_units (evaluation_of w) ≤ seen_units w
 unfolding seq
-stored-done w inv done =
+units_done w inv done =
     omega (
       arith,
       ap (λ (ts : Tasks). sum (map units_of_task ts)) (tasks_done w inv done),
@@ -113,18 +108,9 @@ stored-done w inv done =
       ap (λ (l : List Value). sum (map units l)) (printed_done w inv done),
     )
 
-pub done-within : (w : Known) → Inv w → IsDone w → passed w ≡ None → IsWithinLimits (evaluation_of w)
-done-within w inv done none =
-    let both = (passed-none w).0 none in
-    let few = both.0 in
-    let small = both.1 in
-    let count = calls-done w inv done in
-    let total = stored-done w inv done in
-    record { few = omega arith; small = omega arith }
-
 -- both sums are then those of the evaluation
 pub calls-equal : (w : Known) → Inv w → IsDone w → length w.calls ≡ length (evaluation_of w).tasks
 calls-equal w inv done = let less = calls-within w inv in let more = calls-done w inv done in omega arith
 
-pub stored-equal : (w : Known) → Inv w → IsDone w → stored w ≡ total_units (evaluation_of w)
-stored-equal w inv done = let less = stored-within w inv in let more = stored-done w inv done in omega arith
+pub units-done : (w : Known) → Inv w → IsDone w → seen_units w ≡ total_units (evaluation_of w)
+units-done w inv done = let less = units-within w inv in let more = units_done w inv done in omega arith

@@ -11,10 +11,11 @@ use Rattle.flow_meaning.specs.Inputs.{Path, path_in}
 use Rattle.flow_meaning.specs.Meaning.{Done}
 use Rattle.flow_meaning.specs.Sequential.{MainAct, outcome_at}
 use Rattle.call_rules.specs.Calls.{Call, Begin, Fails, Attempts, Joins, join_dry}
+use Rattle.memo_table.specs.declared.saved.Saved.{Saved}
 use Rattle.kernel_model.specs.declared.answers.ScriptTurn.TheVariants as turn
-use Rattle.kernel_model.specs.Known.{Known, known, main_left, apps_in, path_at}
+use Rattle.kernel_model.specs.Known.{Known, known, saved_at, main_left, apps_in, path_at}
 use Rattle.kernel_model.specs.Acts.{answered, submitted, all_submitted, called, call_of, joining}
-use Rattle.kernel_model.specs.Turns.{CarriesOut, begins, ends, carried_out, unsettled_step, outcome_step, wait_step, request_step, act_step, unless_ended, script_step}
+use Rattle.kernel_model.specs.Turns.{CarriesOut, begins, ends, attempted, carried_out, Stores, unsettled_step, outcome_step, wait_step, request_step, act_step, unless_ended, script_step}
 use Rattle.kernel_model.specs.Work.{not_arrived, not_over, turns_left, HasRoom}
 
 arrived_few : (a : Bool) → not_arrived a ≤ 1
@@ -95,8 +96,16 @@ entries-leave room w v past answers arrived ending has =
 pub callback-leaves : (room : ℕ) (w v : Known) → CarriesOut w v → HasRoom room v → turns_left room v < turns_left room w
 callback-leaves room w v (begins k callback after) has = subst (λ (u : Known). HasRoom room u → turns_left room u < turns_left room w) (sym after) (by_begin _) has
   where
+    by_saved : (r : Option Saved) → HasRoom room (attempted w k r) → turns_left room (attempted w k r) < turns_left room w
+    by_saved None h = entry-leaves room w _ (omega arith) refl refl refl h
+    by_saved (Some saved) h = entries-leave room w _ (omega arith) refl refl refl h
+
     by_begin : (b : Begin) → HasRoom room (carried_out w k b) → turns_left room (carried_out w k b) < turns_left room w
     by_begin (Fails exception) h = entry-leaves room w _ (omega arith) refl refl refl h
-    by_begin (Attempts app values) h = entry-leaves room w _ (omega arith) refl refl refl h
+    by_begin (Attempts app values) h = by_saved (saved_at w k) h
     by_begin (Joins app values) h = let more = submits_longer (joining w k (join_dry (apps_in w) (path_at w k) app values)) (join_dry (apps_in w) (path_at w k) app values).1 in entries-leave room w _ (let le = more.past in omega arith) more.answers more.arrived more.ending h
 callback-leaves room w v (ends k is after) has = subst (λ (u : Known). HasRoom room u → turns_left room u < turns_left room w) (sym after) (λ h. entry-leaves room w _ (omega arith) refl refl refl h) has
+
+-- a value that is stored leaves fewer turns
+pub store-leaves : (room : ℕ) (w v : Known) → Stores w v → HasRoom room v → turns_left room v < turns_left room w
+store-leaves room w v did has = subst (λ (u : Known). HasRoom room u → turns_left room u < turns_left room w) (sym did.after) (λ h. entry-leaves room w _ (omega arith) refl refl refl h) has

@@ -6,6 +6,7 @@ use Rattle.flow_base.specs.declared.value.Value.TheVariants as v
 use Rattle.flow_base.specs.declared.outcome.Ending.{Ending}
 use Rattle.flow_base.specs.declared.outcome.Outcome.{Outcome}
 use Rattle.script_tree.specs.Grammar.{Tree}
+use Rattle.task_record.specs.declared.status.Status.{Status}
 use Rattle.task_record.specs.declared.status.Status.TheVariants as status
 use Rattle.event_log.specs.declared.entry.Entry.{Entry}
 use Rattle.event_log.specs.declared.entry.Entry.TheVariants as entry
@@ -18,14 +19,17 @@ use Rattle.flow_meaning.specs.Operators.{Text}
 use Rattle.flow_meaning.specs.Evaluations.{name_in}
 use Rattle.flow_meaning.specs.Sequential.{MainAct, Calls, Waits, Prints, Checkpoints}
 use Rattle.call_rules.specs.Calls.{Call, Dry}
+use Rattle.memo_table.specs.Keys.{KeyView}
+use Rattle.memo_table.specs.Table.{with_saved}
+use Rattle.memo_table.specs.declared.saved.Saved.{Saved}
 use Rattle.history_laws.specs.Tables.{status_of}
 use Rattle.kernel_model.specs.declared.answers.Refusal.{Refusal}
-use Rattle.kernel_model.specs.Known.{Known, Life, path_at, life_at, word_of, apps_in, next_path}
+use Rattle.kernel_model.specs.Known.{Known, Life, path_at, life_at, word_of, apps_in, next_path, value_of}
 
 -- ---- before any turn
 
 abbrev pub started_with : Tree → List (List Settlement) → Known
-started_with tree told = record { tree = tree; answers = []; arrived = false; ending = None; calls = []; lives = []; acts = []; past = []; refusal = None; told = told }
+started_with tree told = record { tree = tree; answers = []; arrived = false; ending = None; memo = []; calls = []; lives = []; acts = []; past = []; refusal = None; told = told }
 
 -- ---- calls
 
@@ -93,16 +97,38 @@ started w k = put w k (record (life_at w k) { status = status.Running }) (entry.
 abbrev pub finished : Known → ℕ → Outcome → Known
 finished w k outcome = put w k (record (life_at w k) { status = status.RunningEnded; end = Some outcome }) (entry.Ended (path_at w k) (life_at w k).attempts 1 (word_of outcome))
 
+abbrev pub settlement_as : Known → ℕ → Status → Outcome → Settlement
+settlement_as w k s outcome = record { path = path_at w k; status = s; outcome = outcome }
+
 abbrev pub settlement_of : Known → ℕ → Outcome → Settlement
-settlement_of w k outcome = record { path = path_at w k; status = status_of outcome; outcome = outcome }
+settlement_of w k outcome = settlement_as w k (status_of outcome) outcome
 
 -- the monitors were told this
 abbrev pub retold : List (List Settlement) → Known → Known
 retold told w = record w { told = told }
 
--- the task is settled so, and each monitor is told
+-- the task is settled in this state, and each monitor is told
+abbrev pub settled_in : Known → ℕ → Status → Outcome → Known
+settled_in w k s outcome = retold (tell (settlement_as w k s outcome) w.told) (put w k (record (life_at w k) { status = s; end = Some outcome }) (entry.Settled (path_at w k) s))
+
+-- the task is settled in the state of its outcome
 abbrev pub settled_as : Known → ℕ → Outcome → Known
-settled_as w k outcome = retold (tell (settlement_of w k outcome) w.told) (put w k (record (life_at w k) { status = status_of outcome; end = Some outcome }) (entry.Settled (path_at w k) (status_of outcome)))
+settled_as w k outcome = settled_in w k (status_of outcome) outcome
+
+-- ---- the memo
+
+abbrev pub hit : Known → ℕ → Known
+hit w k = record w { past = entry.MemoHit (path_at w k) ∷ w.past }
+
+-- the task is settled by what the memo has
+abbrev pub recalled : Known → ℕ → Saved → Known
+recalled w k saved = settled_in (hit w k) k status.MemoDone (value_of saved)
+
+-- the value of the task's attempt is stored
+abbrev pub stored_by : Known → ℕ → KeyView → Saved → Known
+stored_by w k key saved = record w { memo = with_saved w.memo key saved; past = entry.Stored (path_at w k) ∷ w.past }
+
+-- ---- joins
 
 -- the body of a join ran, and its calls are still to be submitted
 abbrev pub joining : Known → ℕ → Dry → Known

@@ -13,9 +13,11 @@ use Rattle.flow_meaning.specs.Meaning.{Done}
 use Rattle.flow_meaning.specs.Sequential.{join_outcome}
 use Rattle.call_rules.specs.Calls.{Call, Dry, Fails, Attempts, Joins, join_dry, calls_below}
 use Rattle.history_laws.specs.Reads.{due}
-use Rattle.kernel_model.specs.Known.{Known, call_at, path_at, life_at, status_at, known, begin_at, has_ended, main_left, apps_in, IsDone}
+use Rattle.kernel_model.specs.Known.{Known, call_at, path_at, status_at, known, begin_at, saved_at, has_ended, main_left, apps_in, IsDone}
 use Rattle.kernel_model.specs.Invariants.{EndsSo}
-use Rattle.kernel_model.specs.Turns.{IsCallback, IsJoinDone}
+use Rattle.memo_table.specs.Keys.{KeyView}
+use Rattle.memo_table.specs.declared.saved.Saved.{Saved}
+use Rattle.kernel_model.specs.Turns.{IsCallback, IsJoinDone, IsSettling, IsStore}
 use Rattle.call_rules.specs.Calls.{call_outcome}
 use Rattle.flow_meaning.specs.Evaluations.{no_losses}
 
@@ -25,6 +27,7 @@ pub record CanLaunch (w : Known) (k : ℕ) : Type 0 where
   pub app : AppDef
   pub values : List Value
   pub begins : begin_at w k ≡ Attempts app values
+  pub unsaved : saved_at w k ≡ None
 
 pub record CanStart (w : Known) (k : ℕ) : Type 0 where
   pub not_ended : has_ended w ≡ false
@@ -44,8 +47,18 @@ pub record CanFail (w : Known) (k : ℕ) (exception : Exception) : Type 0 where
 -- the end of its attempt settles it
 pub record CanSettle (w : Known) (k : ℕ) (outcome : Outcome) : Type 0 where
   pub not_ended : has_ended w ≡ false
-  pub over : status_at w k ≡ status.RunningEnded
-  pub is : (life_at w k).end ≡ Some outcome
+  pub ready : IsSettling w k outcome
+
+-- what the memo has settles it
+pub record CanRecall (w : Known) (k : ℕ) (saved : Saved) : Type 0 where
+  pub not_ended : has_ended w ≡ false
+  pub callback : IsCallback w k
+  pub is : saved_at w k ≡ Some saved
+
+-- the value of its attempt may be stored
+pub record CanStore (w : Known) (k : ℕ) (key : KeyView) (saved : Saved) : Type 0 where
+  pub not_ended : has_ended w ≡ false
+  pub store : IsStore w k key saved
 
 -- its body may run
 pub record CanJoin (w : Known) (k : ℕ) (ran : Dry) : Type 0 where

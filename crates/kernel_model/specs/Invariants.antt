@@ -1,29 +1,35 @@
 -- What a kernel keeps to.
-use Rattle.std.specs.Prelude.{◌≡◌, ◌≢◌, ℕ, ◌+◌, ◌<◌, ◌≤◌, true, false, List, [], ◌∷◌, length, Option, Some, None, IsSome, is_some, slice_get, Result}
+use Rattle.std.specs.Prelude.{◌≡◌, ◌≢◌, ℕ, ◌+◌, ◌<◌, ◌≤◌, Bool, true, false, List, [], ◌∷◌, length, Option, Some, None, IsSome, is_some, slice_get, Result}
 use Rattle.flow_base.specs.declared.value.Value.{Value}
 use Rattle.flow_base.specs.declared.outcome.Ending.{Ending}
 use Rattle.flow_base.specs.declared.outcome.Ending.TheVariants as ending
 use Rattle.flow_base.specs.declared.outcome.Exception.{Exception}
 use Rattle.flow_base.specs.declared.outcome.Outcome.{Outcome}
 use Rattle.script_tree.specs.declared.tree.AppDef.{AppDef}
+use Rattle.script_tree.specs.Canonical as canonical
+use Rattle.script_tree.specs.Grammar.{Tree}
 use Rattle.task_record.specs.declared.status.Status.{Status}
 use Rattle.task_record.specs.declared.status.Status.TheVariants as status
 use Rattle.task_record.specs.States.{is_settled}
 use Rattle.flow_meaning.specs.Act.{Act, Give, Throw, Ask}
 use Rattle.flow_meaning.specs.Inputs.{Path}
 use Rattle.flow_meaning.specs.Meaning.{Done}
-use Rattle.flow_meaning.specs.Sequential.{Made, outcome_at, perform, main_answer}
+use Rattle.flow_meaning.specs.Sequential.{Made, outcome_at, perform, main_answer, apply, outcome_of}
 use Rattle.flow_meaning.specs.Evaluations.{no_losses}
 use Rattle.history_laws.specs.declared.table.MainEvent.{MainEvent}
 use Rattle.history_laws.specs.declared.table.MainEvent.TheVariants as act
 use Rattle.history_laws.specs.declared.table.Retries.{Retries}
 use Rattle.call_rules.specs.Calls.{Losses, Call, child, Attempts, Joins, calls_below, awaits, call_outcome, join_dry}
-use Rattle.history_laws.specs.Reads.{History, submits, is_submitted, has_joined, due, settled, launches, stage, last_try, Stage, Unlaunched, Waiting, Running, Over, costs, cost, has_end, lost}
-use Rattle.history_laws.specs.Tables.{calls_in, acts_of, status_of, is_join, table}
+use Rattle.memo_table.specs.Keys.{KeyView}
+use Rattle.memo_table.specs.Table.{found, AreOnce}
+use Rattle.memo_table.specs.declared.saved.Saved.{Saved}
+use Rattle.history_laws.specs.Reads.{History, has_hit, stores, submits, is_submitted, has_joined, due, settled, launches, stage, last_try, Stage, Unlaunched, Waiting, Running, Over, costs, cost, has_end, lost}
+use Rattle.history_laws.specs.Tables.{calls_in, acts_of, status_of, is_join, table, table_key}
+use Rattle.history_laws.specs.Laws.{state_with}
 use Rattle.history_laws.specs.Legal.{IsLegal}
 use Rattle.call_rules.specs.Groups.{AllKnown, HasTask, IsGroup}
 use Rattle.call_rules.specs.Told.{Asks, IsTold, whole_ran, whole}
-use Rattle.kernel_model.specs.Known.{Known, Life, no_life, no_retries, call_at, path_at, life_at, status_at, settled_outcome, inputs_at, known, begin_at, word_of, main_rule, main_left, printed_in, apps_in, IsDone}
+use Rattle.kernel_model.specs.Known.{Known, Life, no_life, no_retries, call_at, path_at, life_at, status_at, settled_outcome, inputs_at, known, begin_at, key_at, value_of, is_kept, word_of, main_rule, main_left, printed_in, apps_in, IsDone}
 
 -- ---- tasks and their history
 
@@ -56,6 +62,7 @@ IsReached life status.Joining = IsSome life.ran
 IsReached life status.ExecDone = IsSome life.end
 IsReached life status.Failed = IsSome life.end
 IsReached life status.DepFail = IsSome life.end
+IsReached life status.MemoDone = IsSome life.end
 IsReached life _ = ⊥
 
 -- a task without an outcome is what the history says of it
@@ -66,15 +73,21 @@ pub record IsOpen (r : Retries) (p : Path) (b : History) (life : Life) : Type 0 
   pub last : try_with life.status life.end ≡ last_try p b
   pub unsettled : settled p b ≡ None
 
+-- the state of a task that took its value from the memo
+abbrev pub is_memoised : Status → Bool
+is_memoised status.MemoDone = true
+is_memoised _ = false
+
 -- a task with an outcome has settled in its state
 pub record IsClosed (p : Path) (b : History) (life : Life) : Type 0 where
   pub settled : settled p b ≡ Some life.status
-  pub state : (outcome : Outcome) → life.end ≡ Some outcome → life.status ≡ status_of outcome
+  pub state : (outcome : Outcome) → life.end ≡ Some outcome → state_with (is_memoised life.status) (status_of outcome) ≡ Some life.status
 
 pub record IsLife (r : Retries) (p : Path) (b : History) (life : Life) : Type 0 where
   pub reached : IsReached life life.status
   pub first : life.status ≡ status.Pending → life.attempts ≡ 0
   pub joined : has_joined p b ≡ is_some life.ran
+  pub hit : has_hit p b ≡ is_memoised life.status
   pub opened : is_settled life.status ≡ false → IsOpen r p b life
   pub closed : is_settled life.status ≡ true → IsClosed p b life
 
@@ -175,6 +188,35 @@ pub record JoinsRan (w : Known) : Type 0 where
   pub settled : (k : ℕ) (outcome : Outcome) → settled_outcome w k ≡ Some outcome → is_join (begin_at w k) ≡ true → IsSome (life_at w k).ran
   pub is_due : (p : Path) (n : ℕ) → due w.past ≡ Some (p, n) → IsDue w p n
 
+-- the app is one of the script's
+pub record HasApp (apps : List AppDef) (app : AppDef) : Type 0 where
+  pub number : ℕ
+  pub there : slice_get apps number ≡ Some app
+
+-- no two apps of the script have one text
+abbrev pub TextsDiffer : Tree → Type 0
+TextsDiffer tree = (a b : AppDef) → HasApp tree.0 a → HasApp tree.0 b → canonical.app a ≡ canonical.app b → a ≡ b
+
+-- what is stored of this key is what each app of its text gives
+abbrev pub IsValueOf : List AppDef → KeyView → Saved → Type 0
+IsValueOf apps key saved = (app : AppDef) → HasApp apps app → canonical.app app ≡ key.app → outcome_of (apply app key.arguments key.names) ≡ value_of saved
+
+-- the key of a task whose inputs are known
+pub record IsTaskKey (w : Known) (key : KeyView) : Type 0 where
+  pub place : ℕ
+  pub within : place < length w.calls
+  pub inputs : AllKnown (known w) (inputs_at w place)
+  pub is : key_at w place ≡ Some key
+
+-- the memo is what the history says, and has the values of calls
+pub record Memoises (w : Known) : Type 0 where
+  pub once : AreOnce w.memo
+  pub values : (key : KeyView) (saved : Saved) → found w.memo key ≡ Some saved → IsValueOf (apps_in w) key saved
+  pub made : (key : KeyView) → IsSome (found w.memo key) → IsTaskKey w key
+  -- the value of a settled task is stored
+  pub kept : (k : ℕ) (outcome : Outcome) → settled_outcome w k ≡ Some outcome → is_kept w.memo (key_at w k) outcome ≡ true
+  pub told : (losses : Losses) → FitsLosses losses w → (key : KeyView) → stores (table_key (table w.tree losses)) key w.past ≡ is_some (found w.memo key)
+
 -- main's calls and acts
 pub record MainDid (w : Known) : Type 0 where
   pub asks : Asks [] (submits w.past) (main_left w)
@@ -195,9 +237,11 @@ pub record IsRight (w : Known) : Type 0 where
 -- it holds between the entries of a turn too
 pub record IsConsistent (w : Known) : Type 0 where
   pub told : IsTold w.tree
+  pub texts : TextsDiffer w.tree
   pub tracks : Tracks w
   pub runs : Runs w
   pub joins : JoinsRan w
+  pub memo : Memoises w
   pub main : MainDid w
   pub right : IsRight w
 

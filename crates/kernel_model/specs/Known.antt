@@ -1,5 +1,5 @@
 -- What a kernel keeps.
-use Rattle.std.specs.Prelude.{ℕ, ◌<◌, Bool, ◌||◌, if◌then◌else◌, List, [], ◌∷◌, ◌++◌, length, flat_map, Option, Some, None, IsSome, is_some, Result}
+use Rattle.std.specs.Prelude.{ℕ, ◌<◌, Bool, true, ◌||◌, if◌then◌else◌, List, [], ◌∷◌, ◌++◌, length, flat_map, Option, Some, None, IsSome, is_some, Result}
 use Rattle.std.proofs.Common.{get_or}
 use Rattle.flow_base.specs.declared.value.Value.{Value}
 use Rattle.flow_base.specs.declared.outcome.Ending.{Ending}
@@ -21,7 +21,11 @@ use Rattle.flow_meaning.specs.Sequential.{Tasks, MainAct, Prints, Rule, rule, ma
 use Rattle.flow_meaning.specs.Walk.{main_act}
 use Rattle.dependency_graph.specs.declared.monitor.Settlement.{Settlement}
 use Rattle.call_rules.specs.Calls.{Losses, Call, task_of, Begin, begin, child}
+use Rattle.memo_table.specs.Keys.{KeyView}
+use Rattle.memo_table.specs.Table.{MemoView, found}
+use Rattle.memo_table.specs.declared.saved.Saved.{Saved}
 use Rattle.history_laws.specs.Reads.{History, has_end, submits, value_word}
+use Rattle.history_laws.specs.Tables.{key_with}
 use Rattle.history_laws.specs.declared.table.Retries.{Retries}
 use Rattle.kernel_model.specs.declared.answers.Refusal.{Refusal}
 
@@ -42,6 +46,8 @@ pub record Known : Type 0 where
   pub arrived : Bool
   -- how main ended
   pub ending : Option Ending
+  -- the values of calls of cached apps
+  pub memo : MemoView
   -- the calls in the order of their submissions, each with its path
   pub calls : List Call
   pub lives : List Life
@@ -113,6 +119,33 @@ known w = known_in w.calls w.lives
 -- what becomes of a call, once its inputs are known
 abbrev pub begin_at : Known → ℕ → Begin
 begin_at w k = begin (apps_in w) (known w) (call_at w k)
+
+-- ---- the memo
+
+-- the key of a call, once its inputs are known, where its app is cached and it gets its outcome by an attempt
+abbrev pub key_in : List AppDef → Tasks → Call → Option KeyView
+key_in apps ts c = key_with c.names (begin apps ts c)
+
+abbrev pub key_at : Known → ℕ → Option KeyView
+key_at w k = key_in (apps_in w) (known w) (call_at w k)
+
+-- what is stored of this key
+abbrev pub saved_for : MemoView → Option KeyView → Option Saved
+saved_for memo None = None
+saved_for memo (Some key) = found memo key
+
+abbrev pub saved_at : Known → ℕ → Option Saved
+saved_at w k = saved_for w.memo (key_at w k)
+
+abbrev pub value_of : Saved → Outcome
+value_of saved = o.Value saved.value saved.files
+
+-- nothing of this outcome is to be stored: it is no value, has no key, or is stored
+abbrev pub is_kept : MemoView → Option KeyView → Outcome → Bool
+is_kept memo (Some key) (o.Value value files) = is_some (found memo key)
+is_kept memo _ _ = true
+
+-- ---- words
 
 -- the word for an outcome in the log
 abbrev pub word_of : Outcome → Text

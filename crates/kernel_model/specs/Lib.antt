@@ -5,6 +5,7 @@ pub mod Acts
 pub mod Turns
 pub mod Conditions
 pub mod Evaluated
+pub mod RunTotals
 pub mod Work
 pub mod Limits
 pub mod Telling

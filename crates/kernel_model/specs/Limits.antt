@@ -6,9 +6,12 @@ use Rattle.call_rules.specs.Calls.{Call}
 use Rattle.stored_units.specs.declared.units.Limit.{Limit}
 use Rattle.stored_units.specs.declared.units.Limit.TheVariants as limit
 use Rattle.stored_units.specs.Stored.{max_tasks, max_stored, call_units, outcome_units}
+use Rattle.memo_table.specs.Keys.{KeyView}
+use Rattle.memo_table.specs.Table.{MemoView}
+use Rattle.memo_table.specs.declared.saved.Saved.{Saved}
 use Rattle.kernel_model.specs.declared.answers.Refusal.{Refusal}
 use Rattle.kernel_model.specs.declared.answers.Refusal.TheVariants.{NoMemory, TaskLimit, StoreLimit}
-use Rattle.kernel_model.specs.Known.{Known, Life, outcome_in, printed_in}
+use Rattle.kernel_model.specs.Known.{Known, Life, outcome_in, printed_in, value_of}
 
 abbrev pub refusal_for : Limit → Refusal
 refusal_for limit.Tasks = TaskLimit
@@ -25,9 +28,20 @@ units_where (Some outcome) = outcome_units outcome
 abbrev pub units_of_life : Life → ℕ
 units_of_life life = units_where (outcome_in life)
 
--- the units that are stored: of the calls, of the outcomes of settled tasks, and of what was printed
+-- the units of a key: of its app's text, whose bytes alone count, of its arguments and of its names
+abbrev pub units_of_key : KeyView → ℕ
+units_of_key key = length key.app + call_units key.arguments key.names
+
+-- the units of a key with its value and files
+abbrev pub units_of_saved : KeyView × Saved → ℕ
+units_of_saved e = units_of_key e.0 + outcome_units (value_of e.1)
+
+abbrev pub units_of_memo : MemoView → ℕ
+units_of_memo memo = sum (map units_of_saved memo)
+
+-- the units that are stored: of the calls, of the outcomes of settled tasks, of what was printed, and of the memo
 abbrev pub stored : Known → ℕ
-stored w = sum (map units_of_call w.calls) + sum (map units_of_life w.lives) + sum (map units (printed_in w.acts))
+stored w = sum (map units_of_call w.calls) + sum (map units_of_life w.lives) + sum (map units (printed_in w.acts)) + units_of_memo w.memo
 
 -- the limit that a run with so many calls and so many stored units is past; that of calls goes first
 abbrev pub passed_by : ℕ → ℕ → Option Limit

@@ -25,9 +25,12 @@ use Rattle.kernel_model.specs.declared.answers.ScriptTurn.{ScriptTurn}
 use Rattle.kernel_model.specs.declared.answers.ScriptTurn.TheVariants as turn
 use Rattle.kernel_model.specs.declared.answers.Delivered.{Delivered}
 use Rattle.kernel_model.specs.declared.answers.Delivered.TheVariants.{Taken, Stale}
+use Rattle.memo_table.specs.Keys.{KeyView}
+use Rattle.memo_table.specs.Table.{found}
+use Rattle.memo_table.specs.declared.saved.Saved.{Saved}
 use Rattle.kernel_model.specs.Jobs.{JobView, DoneView}
-use Rattle.kernel_model.specs.Known.{Known, call_at, path_at, life_at, status_at, inputs_at, known, begin_at, apps_in, main_left, IsDone}
-use Rattle.kernel_model.specs.Acts.{answered, call_of, called, waited, printed, checkpointed, arrived_at, main_ended, launched, started, finished, settled_as, joined, over}
+use Rattle.kernel_model.specs.Known.{Known, call_at, path_at, life_at, status_at, inputs_at, known, begin_at, key_at, saved_at, value_of, is_kept, apps_in, main_left, IsDone}
+use Rattle.kernel_model.specs.Acts.{answered, call_of, called, waited, printed, checkpointed, arrived_at, main_ended, launched, started, finished, settled_as, recalled, stored_by, joined, over}
 use Rattle.call_rules.specs.Groups.{AllKnown}
 
 -- ---- main
@@ -76,10 +79,15 @@ pub record IsCallback (w : Known) (k : ℕ) : Type 0 where
   pub pending : status_at w k ≡ status.Pending
   pub inputs : AllKnown (known w) (inputs_at w k)
 
--- it is settled by one of the first three rules or for its depth, launched, or its body runs
+-- it takes its value from the memo, or else is launched
+abbrev pub attempted : Known → ℕ → Option Saved → Known
+attempted w k None = launched w k
+attempted w k (Some saved) = recalled w k saved
+
+-- it is settled by one of the first three rules or for its depth, recalled or launched, or its body runs
 abbrev pub carried_out : Known → ℕ → Begin → Known
 carried_out w k (Fails exception) = settled_as w k (o.Failed exception)
-carried_out w k (Attempts app values) = launched w k
+carried_out w k (Attempts app values) = attempted w k (saved_at w k)
 carried_out w k (Joins app values) = joined w k (join_dry (apps_in w) (path_at w k) app values)
 
 -- a join whose body ran, and all that it returned has settled
@@ -144,18 +152,43 @@ abbrev pub DeliverTurn : Known → DoneView → Delivered → Known → Type 0
 DeliverTurn w done Taken v = Takes w done v
 DeliverTurn w done Stale v = ((k : ℕ) → IsRunning w done.job k → ⊥) × (v ≡ w)
 
+-- ---- storing
+
+-- The attempt of a task of a cached app ended with this value, and its key is not stored.
+pub record IsStore (w : Known) (k : ℕ) (key : KeyView) (saved : Saved) : Type 0 where
+  pub over : status_at w k ≡ status.RunningEnded
+  pub key_is : key_at w k ≡ Some key
+  pub is : (life_at w k).end ≡ Some (value_of saved)
+  pub fresh : found w.memo key ≡ None
+
+pub record Stores (w v : Known) : Type 0 where
+  pub task : ℕ
+  pub key : KeyView
+  pub saved : Saved
+  pub store : IsStore w task key saved
+  pub after : v ≡ stored_by w task key saved
+
+abbrev pub StoreTurn : Known → Bool → Known → Type 0
+StoreTurn w true v = Stores w v
+StoreTurn w false v = ((k : ℕ) (key : KeyView) (saved : Saved) → IsStore w k key saved → ⊥) × (v ≡ w)
+
 -- ---- settling
+
+-- The task's attempt is over, and if it ended with the value of a cached app, its key is stored.
+pub record IsSettling (w : Known) (k : ℕ) (outcome : Outcome) : Type 0 where
+  pub over : status_at w k ≡ status.RunningEnded
+  pub is : (life_at w k).end ≡ Some outcome
+  pub kept : is_kept w.memo (key_at w k) outcome ≡ true
 
 pub record Settles (w v : Known) : Type 0 where
   pub task : ℕ
   pub outcome : Outcome
-  pub over : status_at w task ≡ status.RunningEnded
-  pub is : (life_at w task).end ≡ Some outcome
+  pub ready : IsSettling w task outcome
   pub after : v ≡ settled_as w task outcome
 
 abbrev pub SettleTurn : Known → Bool → Known → Type 0
 SettleTurn w true v = Settles w v
-SettleTurn w false v = ((k : ℕ) → status_at w k ≢ status.RunningEnded) × (v ≡ w)
+SettleTurn w false v = ((k : ℕ) (outcome : Outcome) → IsSettling w k outcome → ⊥) × (v ≡ w)
 
 -- ---- the end
 

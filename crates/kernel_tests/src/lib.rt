@@ -8,4 +8,6 @@ mod mergesort;
 #[cfg(test)]
 mod runs;
 #[cfg(test)]
+mod stored;
+#[cfg(test)]
 mod tasks;

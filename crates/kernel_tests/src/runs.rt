@@ -31,7 +31,8 @@ fn turn(alloc: Global, kernel: &mut Kernel<Ledger>, kind: usize) -> Result<bool,
         0 => Ok(matches!(kernel.script_turn()?, ScriptTurn::Advanced)),
         1 => kernel.callback_turn(),
         2 => run_attempt(alloc, kernel),
-        3 => kernel.settle_turn(),
+        3 => kernel.store_turn(),
+        4 => kernel.settle_turn(),
         _ => kernel.end_turn(),
     }
 }
@@ -43,11 +44,11 @@ fn round(
     order: Order,
     number: usize,
 ) -> Result<(), Refusal> {
-    for place in 0..5 {
+    for place in 0..6 {
         let kind = match order {
             Order::FirstToLast => place,
-            Order::LastToFirst => 4 - place,
-            Order::Rotating => (place + number % 5) % 5,
+            Order::LastToFirst => 5 - place,
+            Order::Rotating => (place + number % 6) % 6,
         };
         if kernel.ended() || turn(alloc, kernel, kind)? {
             return Ok(());

@@ -23,6 +23,7 @@ pub fn plain(alloc: Global, path: Path, app: Text, inputs: Paths) -> Result<Expe
         calls: 0,
         awaits: Paths::new(alloc),
         kind: Text::of(alloc, "value")?,
+        key: None,
         status: Status::ExecDone,
     })
 }
@@ -38,6 +39,7 @@ pub fn join(alloc: Global, path: Path, app: Text, calls: u32, awaits: Paths) -> 
         calls,
         awaits,
         kind: Text::new(alloc),
+        key: None,
         status: Status::ExecDone,
     }
 }

@@ -80,7 +80,7 @@ module _ (z : Table) (words : AllHaveWords z) where
   line : (r : Retries) (b : History) (e : Entry) → Holds (LaunchLaw z) b → Holds ManagerLaw b → SettlingLaw z b e → LaunchLaw z b e → AttemptLaw r z b e → ManagerLaw b e → HasLine e
   line r b (entry.Submit p app) ls ms s l a m = submitted b p app s.stands
   line r b (entry.JoinRun p) ls ms s l a m = (words p l.task l.is).path
-  line r b (entry.MemoHit p) ls ms s l a m = absurd l
+  line r b (entry.MemoHit p) ls ms s l a m = (words p l.task l.is).path
   line r b (entry.Launch p n) ls ms s l a m = (words p l.task l.is).path
   line r b (entry.Dispatch p n manager) ls ms s l a m = absurd (cc)
   line r b (entry.Start p n manager) ls ms s l a m = let h = launched z p b ls ms (is_out (stage p b) Waiting m.stands tt) in (words p h.task h.is).path
@@ -88,7 +88,7 @@ module _ (z : Table) (words : AllHaveWords z) where
       ((words p a.task a.is).path, ended_word p a.task kind a.is a.same_kind (launched z p b ls ms (is_out (stage p b) Running m.stands tt)))
   line r b (entry.Held p n manager) ls ms s l a m = absurd (cc)
   line r b (entry.LostTry p n manager) ls ms s l a m = absurd (cc)
-  line r b (entry.Stored p) ls ms s l a m = absurd l
+  line r b (entry.Stored p) ls ms s l a m = (words p l.task l.is).path
   line r b (entry.Settled p state) ls ms s l a m = settled_line b p state s.stands
   line r b _ ls ms s l a m = tt
 

@@ -15,10 +15,11 @@ use Rattle.parsl_engine.specs.declared.output.Output.{Output}
 use Rattle.parsl_engine.specs.declared.script.ScriptFault.{ScriptFault}
 use Rattle.parsl_engine.specs.declared.script.ScriptFault.TheVariants as fault
 use Rattle.parsl_engine.specs.Exits.{exit_of, exit_unread}
-use Rattle.parsl_engine.specs.Output.{Prints, Produces, Refuses, Limits}
+use Rattle.parsl_engine.specs.Output.{Prints, Produces, Limits}
+use Rattle.parsl_engine.specs.Scripts.{IsFaulty}
 use Rattle.parsl_engine.specs.Tellings.{Ledgers}
 use Rattle.parsl_engine.specs.Course.{status_of, read_limit, read_of, WritesPart, WritesWhole, Wrote, Printed, Answers, Course}
-use Rattle.parsl_engine.proofs.Refusals.{one_refusal, not_refused, not_limited, limited_not_refused}
+use Rattle.parsl_engine.proofs.Refusals.{one_fault, not_refused, not_limited, limited_not_refused}
 
 -- refusals of the same name are the same, and so are limits
 refused_is : (a b : ScriptRefusal) → Refused a ≡ Refused b → a ≡ b
@@ -93,8 +94,8 @@ module _ (c : Command) (bytes : List ℕ) (tells : Bool) (out out' : SinkState) 
   answered (Refused r) p = record {
     done = λ z. absurd (cc);
     raised = λ z. absurd (cc);
-    refused = λ other z. subst (Refuses c bytes) (refused_is r other z) p.0;
-    causes = λ other h. inl (ap Refused (sym (one_refusal c bytes r other p.0 h)));
+    refused = λ other z. subst (IsFaulty bytes) (refused_is r other z) p.0;
+    causes = λ other h. inl (ap Refused (sym (one_fault bytes r other p.0 h)));
     limited = λ l z. absurd (cc);
     limits = λ l h. absurd (limited_not_refused c bytes l r h p.0);
     unwritten = λ z. absurd (cc);

@@ -13,13 +13,14 @@ use Rattle.script_tree.specs.Rules.{State, faults, faults_at, faults_from, behin
 use Rattle.parsl_engine.specs.declared.words.Command.{Command}
 use Rattle.parsl_engine.specs.declared.words.Command.TheVariants as command
 use Rattle.parsl_engine.specs.declared.script.ScriptRefusal.{ScriptRefusal}
-use Rattle.parsl_engine.specs.declared.script.ScriptRefusal.TheVariants.{Parse, Check, NotYet}
+use Rattle.parsl_engine.specs.declared.script.ScriptRefusal.TheVariants.{Parse, Check}
 use Rattle.stored_units.specs.declared.units.Limit.{Limit}
 use Rattle.stored_units.specs.declared.units.Limit.TheVariants as limit
-use Rattle.stored_units.specs.Totals.{limit_met, IsWithinLimits}
-use Rattle.parsl_engine.specs.Scripts.{IsCheckedText, BreaksRule, IsFaulty, IsUncached}
+use Rattle.stored_units.specs.Totals.{limit_met}
+use Rattle.kernel_model.specs.RunTotals.{IsWithinRun}
+use Rattle.parsl_engine.specs.Scripts.{IsCheckedText, BreaksRule, IsFaulty}
 use Rattle.parsl_engine.specs.Runs.{without_losses, PassesLimit}
-use Rattle.parsl_engine.specs.Output.{Prints, IsNotYet, Refuses, Limits}
+use Rattle.parsl_engine.specs.Output.{Prints, Limits}
 use Rattle.parsl_engine.specs.Tellings.{Ledgers}
 
 -- ---- a script that breaks no rule has no fault, wherever its tokens stand
@@ -90,73 +91,28 @@ same_parse kind other place at h = rw (h.0, h.1) refl
 fault_of : (bytes : List ℕ) (s : PlacedTree) (kind : Rule) (place : ℕ) (b : BreaksRule bytes kind place) → b.script ≡ s → IsCheckFault s.tree s.places kind place
 fault_of bytes s kind place b is = subst (λ (p : PlacedTree). IsCheckFault p.tree p.places kind place) is b.fault
 
-one_fault : (bytes : List ℕ) (a b : ScriptRefusal) → IsFaulty bytes a → IsFaulty bytes b → b ≡ a
+pub one_fault : (bytes : List ℕ) (a b : ScriptRefusal) → IsFaulty bytes a → IsFaulty bytes b → b ≡ a
 one_fault bytes (Parse kind place) (Parse other at) p q = same_parse kind other place at (p.only other at q.fault)
 one_fault bytes (Parse kind place) (Check other at) p q = absurd (p.none q.script q.text.has)
 one_fault bytes (Check kind place) (Parse other at) p q = absurd (q.none p.script p.text.has)
 one_fault bytes (Check kind place) (Check other at) p q = same_check kind other place at (one_check p.script kind other place at p.fault (fault_of bytes p.script other at q (p.text.only q.script q.text.has)))
-one_fault bytes NotYet b p q = absurd p
-one_fault bytes (Parse kind place) NotYet p q = absurd q
-one_fault bytes (Check kind place) NotYet p q = absurd q
 
 -- a text of a script that breaks no rule has no fault
 right_faultless : (bytes : List ℕ) (s : PlacedTree) (r : ScriptRefusal) → IsCheckedText bytes s → IsFaulty bytes r → ⊥
 right_faultless bytes s (Parse kind place) t f = f.none s t.text.has
 right_faultless bytes s (Check kind place) t f = well_formed-faultless s.tree s.places kind place t.well_formed (fault_of bytes s kind place f (t.text.only f.script f.text.has))
-right_faultless bytes s NotYet t f = f
-
--- the cause of a refusal, whichever the command
-abbrev Cause : List ℕ → ScriptRefusal → Type 0
-Cause bytes r = IsFaulty bytes r ⊎ ((r ≡ NotYet) × IsNotYet bytes)
-
-cause : (c : Command) (bytes : List ℕ) (r : ScriptRefusal) → Refuses c bytes r → Cause bytes r
-cause command.Run bytes (Parse kind place) h = inl h
-cause command.Run bytes (Check kind place) h = inl h
-cause command.Run bytes NotYet h = inr (refl, h)
-cause command.Seq bytes (Parse kind place) h = inl h
-cause command.Seq bytes (Check kind place) h = inl h
-cause command.Seq bytes NotYet h = inr (refl, h)
-cause command.Check bytes (Parse kind place) h = inl h
-cause command.Check bytes (Check kind place) h = inl h
-cause command.Check bytes NotYet h = absurd h
-cause command.Format bytes (Parse kind place) h = inl h
-cause command.Format bytes (Check kind place) h = inl h
-cause command.Format bytes NotYet h = absurd h
-
-one_cause : (bytes : List ℕ) (a b : ScriptRefusal) → Cause bytes a → Cause bytes b → b ≡ a
-one_cause bytes a b (inl p) (inl q) = one_fault bytes a b p q
-one_cause bytes a b (inl p) (inr q) = absurd (right_faultless bytes q.1.script a q.1.text p)
-one_cause bytes a b (inr p) (inl q) = absurd (right_faultless bytes p.1.script b p.1.text q)
-one_cause bytes a b (inr p) (inr q) = q.0 ∙ sym p.0
-
-pub one_refusal : (c : Command) (bytes : List ℕ) (a b : ScriptRefusal) → Refuses c bytes a → Refuses c bytes b → b ≡ a
-one_refusal c bytes a b p q = one_cause bytes a b (cause c bytes a p) (cause c bytes b q)
 
 -- ---- what has an output isn't refused
 
 same_script : (bytes : List ℕ) (s t : PlacedTree) → IsCheckedText bytes s → IsCheckedText bytes t → s ≡ t
 same_script bytes s t a b = b.text.only s a.text.has
 
-not_cached : (bytes : List ℕ) (s : PlacedTree) → IsCheckedText bytes s → IsUncached s.tree → IsNotYet bytes → ⊥
-not_cached bytes s text uncached n = n.cached (subst (λ (p : PlacedTree). IsUncached p.tree) (same_script bytes s n.script text n.text) uncached)
-
-pub not_refused : (c : Command) (bytes output : List ℕ) (raised : Bool) (told told' : Ledgers) (r : ScriptRefusal) → Prints c bytes output raised told told' → Refuses c bytes r → ⊥
-not_refused command.Run bytes output raised told told' NotYet p n = not_cached bytes p.script p.text p.prints.uncached n
-not_refused command.Run bytes output raised told told' (Parse kind place) p h = right_faultless bytes p.script (Parse kind place) p.text h
-not_refused command.Run bytes output raised told told' (Check kind place) p h = right_faultless bytes p.script (Check kind place) p.text h
-not_refused command.Seq bytes output raised told told' NotYet p n = not_cached bytes p.script p.text p.prints.0.uncached n
-not_refused command.Seq bytes output raised told told' (Parse kind place) p h = right_faultless bytes p.script (Parse kind place) p.text h
-not_refused command.Seq bytes output raised told told' (Check kind place) p h = right_faultless bytes p.script (Check kind place) p.text h
-not_refused command.Check bytes output raised told told' NotYet p h = h
-not_refused command.Check bytes output raised told told' (Parse kind place) p h = right_faultless bytes p.script (Parse kind place) p.text h
-not_refused command.Check bytes output raised told told' (Check kind place) p h = right_faultless bytes p.script (Check kind place) p.text h
-not_refused command.Format bytes output raised told told' NotYet p h = h
-not_refused command.Format bytes output raised told told' (Parse kind place) p h = right_faultless bytes p.script (Parse kind place) p.text h
-not_refused command.Format bytes output raised told told' (Check kind place) p h = right_faultless bytes p.script (Check kind place) p.text h
+pub not_refused : (c : Command) (bytes output : List ℕ) (raised : Bool) (told told' : Ledgers) (r : ScriptRefusal) → Prints c bytes output raised told told' → IsFaulty bytes r → ⊥
+not_refused c bytes output raised told told' r p h = right_faultless bytes p.script r p.text h
 
 -- ---- what passes a limit has no output, and isn't refused
 
-within_passes : (tree : Tree) (l : Limit) → IsWithinLimits (without_losses tree) → PassesLimit tree l → ⊥
+within_passes : (tree : Tree) (l : Limit) → IsWithinRun tree.0 (without_losses tree) → PassesLimit tree l → ⊥
 within_passes tree limit.Tasks within passes = let few = within.few in absurd (omega (arith, few, passes))
 within_passes tree limit.Stored within passes = let small = within.small in absurd (omega (arith, small, passes))
 
@@ -171,9 +127,5 @@ not_limited command.Seq bytes output raised told told' l p h =
 not_limited command.Check bytes output raised told told' l p h = h.passes
 not_limited command.Format bytes output raised told told' l p h = h.passes
 
-by_cause : (bytes : List ℕ) (r : ScriptRefusal) (s : PlacedTree) → IsCheckedText bytes s → IsUncached s.tree → Cause bytes r → ⊥
-by_cause bytes r s text uncached (inl f) = right_faultless bytes s r text f
-by_cause bytes r s text uncached (inr n) = not_cached bytes s text uncached n.1
-
-pub limited_not_refused : (c : Command) (bytes : List ℕ) (l : Limit) (r : ScriptRefusal) → Limits c bytes l → Refuses c bytes r → ⊥
-limited_not_refused c bytes l r h f = by_cause bytes r h.script h.text h.uncached (cause c bytes r f)
+pub limited_not_refused : (c : Command) (bytes : List ℕ) (l : Limit) (r : ScriptRefusal) → Limits c bytes l → IsFaulty bytes r → ⊥
+limited_not_refused c bytes l r h f = right_faultless bytes h.script r h.text f

@@ -1,5 +1,5 @@
 -- What monitors are told in a run.
-use Rattle.std.proofs.Common.{◌≡◌, ℕ, List, [], ◌++◌, map, Option, Some, None, refl, sym, ◌∙◌, ap, subst}
+use Rattle.std.proofs.Common.{◌≡◌, ℕ, Bool, true, false, List, [], ◌++◌, map, Option, Some, None, refl, sym, ◌∙◌, ap, subst}
 use Rattle.std.specs.Prelude.{reverse}
 use Rattle.std.specs.List.{filter}
 use Rattle.std.proofs.lemmas.List.{reverse-reverse}
@@ -20,13 +20,13 @@ use Rattle.kernel_model.specs.declared.answers.Delivered.{Delivered}
 use Rattle.kernel_model.specs.declared.answers.Delivered.TheVariants.{Taken, Stale}
 use Rattle.kernel_model.specs.Acts.{refused}
 use Rattle.kernel_model.specs.Jobs.{JobView, DoneView}
-use Rattle.kernel_model.specs.Turns.{FetchTurn, DeliverTurn}
+use Rattle.kernel_model.specs.Turns.{FetchTurn, DeliverTurn, StoreTurn}
 use Rattle.kernel_model.specs.Invariants.{Inv, Tracks}
 use Rattle.kernel_model.specs.Known.{Known, known, path_at, settled_outcome}
 use Rattle.kernel_model.specs.Telling.{is_settling, settling, settlements, tell_all, AreTold, HasToldBy, HasTold}
 use Rattle.kernel_model.proofs.Places.{known-only, known-at}
 use Rattle.kernel_model.proofs.SettledLogs.{settling-log, settled-outcomes}
-use Rattle.kernel_model.proofs.Telling.{tell-none, told-longer}
+use Rattle.kernel_model.proofs.Telling.{nothing-told, store-told, tell-none, told-longer}
 use Rattle.kernel_core.proofs.TurnsTold.{fetch-tells, deliver-tells, no-turn-tells}
 use Rattle.parsl_engine.specs.Runs.{without_losses}
 use Rattle.parsl_engine.specs.Tellings.{Ledgers, TellsRun}
@@ -73,6 +73,11 @@ fetch_accepts w v None none turn = ap (λ (u : Known). u.refusal) turn.1 ∙ non
 -- an attempt that is fetched and delivered
 pub attempt-told : (w u v : Known) (job : Option JobView) (done : DoneView) (answer : Delivered) → w.refusal ≡ None → FetchTurn w job u → DeliverTurn u done answer v → HasToldBy None w v
 attempt-told w u v job done answer none fetched delivered = told-on None w u v (fetch-told-ok w u job none fetched) (deliver_told_ok u v done answer (fetch_accepts w u job none fetched) delivered)
+
+-- a store tells no monitor
+pub store-tells : (w v : Known) (did : Bool) → w.refusal ≡ None → StoreTurn w did v → HasTold w v
+store-tells w v true none did = store-told w v none did
+store-tells w v false none did = nothing-told w v none did.1
 
 -- before any turn
 pub none-told : (w : Known) → w.refusal ≡ None → HasToldBy None w w

@@ -2,18 +2,20 @@
 use Rattle.std.proofs.Common.{◌≡◌, ◌≤◌, true, false, length, Some, sym, ◌∙◌, ap, subst, arith}
 use Rattle.script_tree.specs.Grammar.{Tree}
 use Rattle.stored_units.specs.declared.units.Limit.TheVariants as limit
-use Rattle.stored_units.specs.Totals.{total_units}
 use Rattle.history_laws.specs.Reads.{has_end}
 use Rattle.kernel_model.specs.declared.answers.Refusal.{Refusal}
 use Rattle.kernel_model.specs.declared.answers.Refusal.TheVariants.{NoMemory, TaskLimit, StoreLimit}
 use Rattle.kernel_model.specs.Known.{Known, has_ended}
 use Rattle.kernel_model.specs.Invariants.{Inv}
 use Rattle.kernel_model.specs.Limits.{stored, passed, IsRefusedFor}
-use Rattle.kernel_model.specs.Turns.{script_step, CarriesOut, Settles}
+use Rattle.kernel_model.specs.Turns.{script_step, CarriesOut, Stores, Settles}
 use Rattle.kernel_model.proofs.Facts.{keep-script-step, keep-carried-out}
 use Rattle.kernel_model.proofs.KeepingTasks.{keep-settled}
+use Rattle.kernel_model.proofs.KeepingMemo.{keep-stored}
 use Rattle.kernel_model.proofs.Passing.{passed-tasks, passed-stored}
-use Rattle.kernel_model.proofs.Totals.{calls-within, stored-within}
+use Rattle.kernel_model.proofs.Totals.{calls-within}
+use Rattle.kernel_model.proofs.RunTotals.{stored-within-run}
+use Rattle.kernel_model.specs.RunTotals.{run_units}
 use Rattle.kernel_model.specs.Telling.{HasToldBy}
 use Rattle.kernel_core.specs.Refused.{IsRefused}
 use Rattle.kernel_core.proofs.TurnsTold.{cut-tells}
@@ -21,7 +23,7 @@ use Rattle.parsl_engine.specs.Runs.{without_losses, PassesLimit, RefusesFor}
 use Rattle.parsl_engine.proofs.RunsTold.{told-err}
 use Rattle.parsl_engine.proofs.Turning.{going-accepts, going-open, script-stays, callback-stays}
 
--- ---- a kernel past a limit is that of an evaluation past it
+-- ---- a kernel past a limit is that of a run past it
 
 tasks_pass : (u : Known) → Inv u → passed u ≡ Some limit.Tasks → PassesLimit u.tree limit.Tasks
 tasks_pass u inv past =
@@ -32,7 +34,7 @@ tasks_pass u inv past =
 units_pass : (u : Known) → Inv u → passed u ≡ Some limit.Stored → PassesLimit u.tree limit.Stored
 units_pass u inv past =
     let many = ((passed-stored u).0 past).1 in
-    let within : stored u ≤ total_units (without_losses u.tree) = stored-within u inv in
+    let within : stored u ≤ run_units u.tree.0 (without_losses u.tree) = stored-within-run u inv in
     omega (arith, many, within)
 
 -- the kernels that would stand are kernels of this script
@@ -50,9 +52,13 @@ script_leaves w inv going u is = (subst Inv (sym is) (keep-script-step w inv goi
 callback_leaves : (w : Known) → Inv w → has_ended w ≡ false → AreOf w.tree (CarriesOut w)
 callback_leaves w inv going u s = (keep-carried-out w u inv going s, (callback-stays w u true s).tree)
 
+store_leaves : (w : Known) → Inv w → has_ended w ≡ false → AreOf w.tree (Stores w)
+store_leaves w inv going u s =
+    (subst Inv (sym s.after) (keep-stored w s.task s.key s.saved inv (record { not_ended = going; store = s.store })), ap (λ (x : Known). x.tree) s.after)
+
 settle_leaves : (w : Known) → Inv w → has_ended w ≡ false → AreOf w.tree (Settles w)
 settle_leaves w inv going u s =
-    (subst Inv (sym s.after) (keep-settled w s.task s.outcome inv (record { not_ended = going; over = s.over; is = s.is })), ap (λ (x : Known). x.tree) s.after)
+    (subst Inv (sym s.after) (keep-settled w s.task s.outcome inv (record { not_ended = going; ready = s.ready })), ap (λ (x : Known). x.tree) s.after)
 
 -- ---- a round that was refused
 
@@ -77,6 +83,11 @@ pub callback-stopped : (w u v : Known) (refusal : Refusal) → u ≡ w → has_e
 callback-stopped w u v refusal same going inv h =
     let here : IsRefused w v (CarriesOut w) refusal = subst (λ (x : Known). IsRefused x v (CarriesOut x) refusal) same h in
     stopped w v (CarriesOut w) refusal going here (cause w.tree (CarriesOut w) refusal (callback_leaves w inv going) here.cause)
+
+pub store-stopped : (w u v : Known) (refusal : Refusal) → u ≡ w → has_ended w ≡ false → Inv w → IsRefused u v (Stores u) refusal → IsStopped w v refusal
+store-stopped w u v refusal same going inv h =
+    let here : IsRefused w v (Stores w) refusal = subst (λ (x : Known). IsRefused x v (Stores x) refusal) same h in
+    stopped w v (Stores w) refusal going here (cause w.tree (Stores w) refusal (store_leaves w inv going) here.cause)
 
 pub settle-stopped : (w u v : Known) (refusal : Refusal) → u ≡ w → has_ended w ≡ false → Inv w → IsRefused u v (Settles u) refusal → IsStopped w v refusal
 settle-stopped w u v refusal same going inv h =

@@ -14,18 +14,20 @@ use Rattle.flow_meaning.specs.Inputs.{Path, path_in}
 use Rattle.flow_meaning.specs.Meaning.{Done}
 use Rattle.flow_meaning.specs.Sequential.{outcome_at}
 use Rattle.call_rules.specs.Calls.{Call, Begin, Fails, Attempts, Joins, join_dry, call_outcome}
+use Rattle.memo_table.specs.Keys.{KeyView}
+use Rattle.memo_table.specs.declared.saved.Saved.{Saved}
 use Rattle.history_laws.specs.Reads.{has_end}
 use Rattle.kernel_model.specs.declared.answers.Refusal.{Refusal}
 use Rattle.kernel_model.specs.declared.answers.ScriptTurn.{ScriptTurn}
 use Rattle.kernel_model.specs.declared.answers.ScriptTurn.TheVariants as turn
-use Rattle.kernel_model.specs.Known.{Known, call_at, path_at, status_at, known, begin_at, has_ended, main_left, apps_in}
+use Rattle.kernel_model.specs.Known.{Known, call_at, path_at, status_at, known, begin_at, saved_at, has_ended, main_left, apps_in}
 use Rattle.kernel_model.specs.Invariants.{Inv}
 use Rattle.kernel_model.specs.Acts.{submitted, all_submitted, joining, started, finished, over}
-use Rattle.kernel_model.specs.Turns.{unsettled_step, outcome_step, wait_step, request_step, act_step, unless_ended, script_step, IsCallback, IsJoinDone, carried_out, CarriesOut, begins, ends, CallbackTurn, SettleTurn, EndTurn}
+use Rattle.kernel_model.specs.Turns.{unsettled_step, outcome_step, wait_step, request_step, act_step, unless_ended, script_step, IsCallback, IsJoinDone, IsStore, IsSettling, attempted, carried_out, CarriesOut, begins, ends, CallbackTurn, StoreTurn, SettleTurn, EndTurn}
 use Rattle.kernel_model.specs.Work.{turns_left, HasRoom, NoneRuns}
 use Rattle.kernel_model.proofs.Progress.{all-done}
-use Rattle.kernel_model.proofs.Quiet.{script-runs-none, callback-runs-none, finish-runs-none, settle-runs-none, end-runs-none}
-use Rattle.kernel_model.proofs.Working.{entry-leaves, script-leaves, callback-leaves}
+use Rattle.kernel_model.proofs.Quiet.{script-runs-none, callback-runs-none, finish-runs-none, store-runs-none, settle-runs-none, end-runs-none}
+use Rattle.kernel_model.proofs.Working.{entry-leaves, script-leaves, callback-leaves, store-leaves}
 use Rattle.parsl_engine.specs.Rounds.{room, Keeps, AttemptTurn}
 
 -- a turn from the same kernel
@@ -90,15 +92,23 @@ script-stays w = by_ending w.ending
 carried_stays : (w v : Known) → CarriesOut w v → Stays w v
 carried_stays w v (begins k callback after) = stays-as w _ v after (by_begin (begin_at w k))
   where
+    by_saved : (r : Option Saved) → Stays w (attempted w k r)
+    by_saved None = record { tree = refl; refusal = refl }
+    by_saved (Some saved) = record { tree = refl; refusal = refl }
+
     by_begin : (b : Begin) → Stays w (carried_out w k b)
     by_begin (Fails exception) = record { tree = refl; refusal = refl }
-    by_begin (Attempts app values) = record { tree = refl; refusal = refl }
+    by_begin (Attempts app values) = by_saved (saved_at w k)
     by_begin (Joins app values) = let more = submits_stay (joining w k (join_dry (apps_in w) (path_at w k) app values)) (join_dry (apps_in w) (path_at w k) app values).1 in record { tree = more.tree; refusal = more.refusal }
 carried_stays w v (ends k is after) = stays-as w _ v after (record { tree = refl; refusal = refl })
 
 pub callback-stays : (w v : Known) (did : Bool) → CallbackTurn w did v → Stays w v
 callback-stays w v true did = carried_stays w v did
 callback-stays w v false did = stays-as w w v did.2 (record { tree = refl; refusal = refl })
+
+pub store-stays : (w v : Known) (did : Bool) → StoreTurn w did v → Stays w v
+store-stays w v true did = stays-as w _ v did.after (record { tree = refl; refusal = refl })
+store-stays w v false did = stays-as w w v did.1 (record { tree = refl; refusal = refl })
 
 pub settle-stays : (w v : Known) (did : Bool) → SettleTurn w did v → Stays w v
 settle-stays w v true did = stays-as w _ v did.after (record { tree = refl; refusal = refl })
@@ -185,6 +195,15 @@ attempt-keeps w v going none inv did has =
       accepted = going-accepts w going;
     }) has
 
+-- ---- storing
+
+pub store-keeps : (w v : Known) → has_ended w ≡ false → NoneRuns w → StoreTurn w true v → HasRoom room v → Keeps w v
+store-keeps w v going none did has = record {
+  fewer = store-leaves room w v did has;
+  still = store-runs-none w v true did none;
+  accepted = (store-stays w v true did).refusal ∙ going-accepts w going;
+}
+
 -- ---- settling
 
 pub settle-keeps : (w v : Known) → has_ended w ≡ false → NoneRuns w → Inv w → SettleTurn w true v → HasRoom room v → Keeps w v
@@ -204,6 +223,6 @@ end-keeps w v going none did has = record {
 }
 
 -- where no turn is ready, the end is
-pub no-turn : (w v : Known) → Inv w → NoneRuns w → ((script_step w).0 ≡ turn.Advanced → ⊥) → ((k : ℕ) → IsCallback w k → ⊥) → ((k : ℕ) → IsJoinDone w k → ⊥) → ((k : ℕ) → status_at w k ≢ status.Launched) → ((k : ℕ) → status_at w k ≢ status.RunningEnded) → EndTurn w false v → ⊥
-no-turn w v inv none script callbacks joins launches over turn =
-    turn.0 (all-done w inv (record { none_runs = none; script = script; callbacks = callbacks; joins = joins; launches = launches; ends = over }))
+pub no-turn : (w v : Known) → Inv w → NoneRuns w → ((script_step w).0 ≡ turn.Advanced → ⊥) → ((k : ℕ) → IsCallback w k → ⊥) → ((k : ℕ) → IsJoinDone w k → ⊥) → ((k : ℕ) → status_at w k ≢ status.Launched) → ((k : ℕ) (key : KeyView) (saved : Saved) → IsStore w k key saved → ⊥) → ((k : ℕ) (outcome : Outcome) → IsSettling w k outcome → ⊥) → EndTurn w false v → ⊥
+no-turn w v inv none script callbacks joins launches stores over turn =
+    turn.0 (all-done w inv (record { none_runs = none; script = script; callbacks = callbacks; joins = joins; launches = launches; stores = stores; ends = over }))

@@ -12,14 +12,15 @@ use Rattle.script_tree.specs.Grammar.{max_text}
 use Rattle.parsl_engine.specs.declared.exit.Exit.{Exit}
 use Rattle.parsl_engine.specs.declared.exit.Exit.TheVariants.{Done, Raised, Refused, Unread, Unwritten, Limited, NoMemory}
 use Rattle.parsl_engine.specs.declared.script.ScriptRefusal.{ScriptRefusal}
-use Rattle.parsl_engine.specs.declared.script.ScriptRefusal.TheVariants.{Parse, Check, NotYet}
+use Rattle.parsl_engine.specs.declared.script.ScriptRefusal.TheVariants.{Parse, Check}
 use Rattle.parsl_engine.specs.declared.words.Command.{Command}
 use Rattle.stored_units.specs.declared.units.Limit.{Limit}
 use Rattle.stored_units.specs.declared.units.Limit.TheVariants as limit
 use Rattle.parsl_engine.specs.declared.output.Output.{Output}
 use Rattle.parsl_engine.specs.declared.script.ScriptFault.{ScriptFault}
 use Rattle.parsl_engine.specs.Exits.{exit_of}
-use Rattle.parsl_engine.specs.Output.{Prints, Refuses, Limits, TellsOf, MayHaveTold}
+use Rattle.parsl_engine.specs.Output.{Prints, Limits, TellsOf, MayHaveTold}
+use Rattle.parsl_engine.specs.Scripts.{IsFaulty}
 use Rattle.parsl_engine.specs.Tellings.{Ledgers, refusal_for}
 use Rattle.parsl_engine.specs.Words.{Meaning}
 
@@ -38,7 +39,6 @@ fault_line front number place = (front ++ decimal number) ++ ((codes " at " ++ d
 abbrev pub refusal_line : ScriptRefusal → List ℕ
 refusal_line (Parse kind place) = fault_line (codes "parsl: script: parse ") (syntax_number kind) place
 refusal_line (Check kind place) = fault_line (codes "parsl: script: check ") (rule_number kind) place
-refusal_line NotYet = codes "parsl: script: not yet" ++ newline
 
 abbrev pub limit_line : Limit → List ℕ
 limit_line limit.Tasks = codes "parsl: task limit 100000" ++ newline
@@ -125,7 +125,7 @@ Wrote (Err fault) exit tells out out' = (exit ≡ exit_of fault) × (out' ≡ ou
 abbrev pub Printed : Command → List ℕ → Exit → Bool → SinkState → SinkState → Ledgers → Ledgers → Type 0
 Printed c bytes Done tells out out' told told' = WritesWhole c bytes false tells out out' told told'
 Printed c bytes Raised tells out out' told told' = WritesWhole c bytes true tells out out' told told'
-Printed c bytes (Refused refusal) tells out out' told told' = Refuses c bytes refusal × (out' ≡ out) × (told' ≡ told)
+Printed c bytes (Refused refusal) tells out out' told told' = IsFaulty bytes refusal × (out' ≡ out) × (told' ≡ told)
 Printed c bytes Unread tells out out' told told' = ⊥
 Printed c bytes Unwritten tells out out' told told' = WritesPart c bytes tells out out' told told' × Rose out.faults out'.faults
 Printed c bytes (Limited l) tells out out' told told' = Limits c bytes l × (out' ≡ out) × TellsOf c bytes (Some (refusal_for l)) told told'
@@ -150,9 +150,9 @@ pub record Answers (c : Command) (bytes : List ℕ) (exit : Exit) (tells : Bool)
   -- or by one
   pub raised : exit ≡ Raised → WritesWhole c bytes true tells out out' told told'
   -- refused exactly where there is a cause, but for want of memory, and for that cause
-  pub refused : (refusal : ScriptRefusal) → exit ≡ Refused refusal → Refuses c bytes refusal
-  pub causes : (refusal : ScriptRefusal) → Refuses c bytes refusal → (exit ≡ Refused refusal) ⊎ (exit ≡ NoMemory)
-  -- limited exactly where the evaluation passes a limit, but for want of memory, and by one that it passes
+  pub refused : (refusal : ScriptRefusal) → exit ≡ Refused refusal → IsFaulty bytes refusal
+  pub causes : (refusal : ScriptRefusal) → IsFaulty bytes refusal → (exit ≡ Refused refusal) ⊎ (exit ≡ NoMemory)
+  -- limited exactly where the run or the evaluation passes a limit, but for want of memory, and by one that it passes
   pub limited : (l : Limit) → exit ≡ Limited l → Limits c bytes l
   pub limits : (l : Limit) → Limits c bytes l → IsLimited exit ⊎ (exit ≡ NoMemory)
   -- a part of the output, for a fault of out

@@ -14,20 +14,19 @@ use Rattle.run_report.specs.Reported.{report_text}
 use Rattle.run_report.specs.Shown.{head_text}
 use Rattle.stored_units.specs.declared.units.Limit.{Limit}
 use Rattle.stored_units.specs.declared.units.Limit.TheVariants as limit
-use Rattle.stored_units.specs.Totals.{limit_met, IsWithinLimits}
+use Rattle.stored_units.specs.Totals.{limit_met}
 use Rattle.kernel_model.specs.declared.answers.Refusal.{Refusal}
 use Rattle.kernel_model.specs.declared.answers.Refusal.TheVariants as refusal
+use Rattle.kernel_model.specs.RunTotals.{IsWithinRun}
 use Rattle.parsl_engine.specs.declared.output.Output.{Output}
 use Rattle.parsl_engine.specs.declared.words.Command.{Command}
 use Rattle.parsl_engine.specs.declared.words.Command.TheVariants as command
-use Rattle.parsl_engine.specs.declared.script.ScriptRefusal.{ScriptRefusal}
-use Rattle.parsl_engine.specs.declared.script.ScriptRefusal.TheVariants.{NotYet}
 use Rattle.parsl_engine.specs.declared.script.ScriptFault.{ScriptFault}
 use Rattle.parsl_engine.specs.declared.script.ScriptFault.TheVariants.{Refused, Limited, NoMemory}
 use Rattle.parsl_engine.specs.declared.run.PartEnd.{PartEnd}
 use Rattle.parsl_engine.specs.declared.run.PartEnd.TheVariants.{Ended, Refused as run_refused}
 use Rattle.parsl_engine.specs.Runs.{IsWholeLog, without_losses, PassesLimit}
-use Rattle.parsl_engine.specs.Scripts.{IsCheckedText, IsFaulty, IsUncached}
+use Rattle.parsl_engine.specs.Scripts.{IsCheckedText, IsFaulty}
 use Rattle.parsl_engine.specs.Tellings.{Ledgers, TellsRun, TellsLegal, refusal_for}
 
 -- ---- what is printed
@@ -37,11 +36,10 @@ abbrev pub is_raised : Ending → Bool
 is_raised ending.Ended = false
 is_raised (ending.Raised exception) = true
 
--- The output of a run is the report of the script's sequential evaluation, which is within the limits, and of a
+-- The output of a run, which is within the limits, is the report of the script's sequential evaluation and of a
 -- legal and complete log: the one that is read back from it. Each monitor was told of the settlements of that log.
 pub record Reports (script : PlacedTree) (output : List ℕ) (raised : Bool) (told told' : Ledgers) : Type 0 where
-  pub uncached : IsUncached script.tree
-  pub within : IsWithinLimits (without_losses script.tree)
+  pub within : IsWithinRun script.tree.0 (without_losses script.tree)
   pub log : List Entry
   pub whole : IsWholeLog script.tree log
   pub report : output ≡ report_text (evaluation script.tree) log
@@ -51,7 +49,6 @@ pub record Reports (script : PlacedTree) (output : List ℕ) (raised : Bool) (to
 
 -- the head of the script's sequential evaluation, which meets no limit
 pub record Heads (script : PlacedTree) (output : List ℕ) (raised : Bool) : Type 0 where
-  pub uncached : IsUncached script.tree
   pub within : limit_met (without_losses script.tree) ≡ None
   pub head : output ≡ head_text (evaluation script.tree)
   pub raised_is : raised ≡ is_raised (evaluation script.tree).main
@@ -91,46 +88,32 @@ MayHaveTold c bytes told told' = (told' ≡ told) ⊎ ((refusal : Option Refusal
 
 -- ---- what is refused
 
--- the bytes are a text of a script that breaks no rule, and has a cached app
-pub record IsNotYet (bytes : List ℕ) : Type 0 where
-  pub script : PlacedTree
-  pub text : IsCheckedText bytes script
-  pub cached : IsUncached script.tree → ⊥
-
--- the bytes of a script are refused for this
-abbrev pub Refuses : Command → List ℕ → ScriptRefusal → Type 0
-Refuses command.Run bytes NotYet = IsNotYet bytes
-Refuses command.Seq bytes NotYet = IsNotYet bytes
-Refuses c bytes refusal = IsFaulty bytes refusal
-
--- The evaluation passes the limit: as a whole in a run, whose tasks end in any order, and first of the two where it
--- is made in order.
+-- The limit is passed: by the whole run, whose tasks end in any order, and first of the two by the evaluation where
+-- it is made in order.
 abbrev pub LimitsFor : Command → PlacedTree → Limit → Type 0
 LimitsFor command.Run script l = PassesLimit script.tree l
 LimitsFor command.Seq script l = limit_met (without_losses script.tree) ≡ Some l
 LimitsFor c script l = ⊥
 
--- the bytes are a text of a script without cached apps, and its evaluation passes the limit
+-- the bytes are a text of a script that breaks no rule, and its run or its evaluation passes the limit
 pub record Limits (c : Command) (bytes : List ℕ) (l : Limit) : Type 0 where
   pub script : PlacedTree
   pub text : IsCheckedText bytes script
-  pub uncached : IsUncached script.tree
   pub passes : LimitsFor c script l
 
 -- ---- outputs
 
 abbrev pub Produces : Command → List ℕ → Result Output ScriptFault → Ledgers → Ledgers → Type 0
 Produces c bytes (Ok output) told told' = Prints c bytes output.text.items output.raised told told'
-Produces c bytes (Err (Refused refusal)) told told' = Refuses c bytes refusal × (told' ≡ told)
+Produces c bytes (Err (Refused refusal)) told told' = IsFaulty bytes refusal × (told' ≡ told)
 Produces c bytes (Err (Limited l)) told told' = Limits c bytes l × TellsOf c bytes (Some (refusal_for l)) told told'
 Produces c bytes (Err NoMemory) told told' = MayHaveTold c bytes told told'
 
--- what a command gives for a script that breaks no rule, where the command may refuse it
+-- what a command gives for a script that breaks no rule
 abbrev pub Gives : Command → PlacedTree → Result Output ScriptFault → Ledgers → Ledgers → Type 0
 Gives c script (Ok output) told told' = PrintsFor c script output.text.items output.raised told told'
-Gives c script (Err (Refused NotYet)) told told' = (IsUncached script.tree → ⊥) × (told' ≡ told)
 Gives c script (Err (Refused refusal)) told told' = ⊥
-Gives c script (Err (Limited l)) told told' = (IsUncached script.tree × LimitsFor c script l) × TellsFor c script (Some (refusal_for l)) told told'
+Gives c script (Err (Limited l)) told told' = LimitsFor c script l × TellsFor c script (Some (refusal_for l)) told told'
 Gives c script (Err NoMemory) told told' = (told' ≡ told) ⊎ ((refusal : Option Refusal) × TellsFor c script refusal told told')
 
 -- ---- the report of a run

@@ -12,10 +12,10 @@ use Rattle.history_laws.specs.Legal.{IsLegalLog, IsComplete}
 use Rattle.stored_units.specs.declared.units.Limit.{Limit}
 use Rattle.stored_units.specs.declared.units.Limit.TheVariants as limit
 use Rattle.stored_units.specs.Stored.{max_tasks, max_stored}
-use Rattle.stored_units.specs.Totals.{total_units, IsWithinLimits}
 use Rattle.kernel_model.specs.declared.answers.Refusal.{Refusal}
 use Rattle.kernel_model.specs.declared.answers.Refusal.TheVariants as refusal
 use Rattle.kernel_model.specs.Known.{no_retries}
+use Rattle.kernel_model.specs.RunTotals.{run_units, IsWithinRun}
 use Rattle.parsl_engine.specs.declared.run.PartEnd.{PartEnd}
 use Rattle.parsl_engine.specs.declared.run.PartEnd.TheVariants.{Ended, Refused}
 
@@ -28,16 +28,16 @@ pub record IsWholeLog (tree : Tree) (log : List Entry) : Type 0 where
   pub legal : IsLegalLog tree no_retries log
   pub complete : IsComplete (history_of log)
 
--- a run that ended has a legal and complete log, and gives the sequential evaluation of its script, which is within the limits
+-- a run that ended has a legal and complete log, is within the limits, and gives the sequential evaluation of its script
 pub record HasRun (tree : Tree) (gave : Result Evaluation AllocError) (log : List Entry) : Type 0 where
   pub whole : IsWholeLog tree log
   pub gives : IfOk gave (λ e. e ≡ evaluation tree)
-  pub within : IsWithinLimits (without_losses tree)
+  pub within : IsWithinRun tree.0 (without_losses tree)
 
--- the evaluation has more calls, or stores more units, than a run may
+-- the evaluation has more calls than a run may, or the run stores more units
 abbrev pub PassesLimit : Tree → Limit → Type 0
 PassesLimit tree limit.Tasks = max_tasks < length (without_losses tree).tasks
-PassesLimit tree limit.Stored = max_stored < total_units (without_losses tree)
+PassesLimit tree limit.Stored = max_stored < run_units tree.0 (without_losses tree)
 
 -- what a refusal of a turn says of the script
 abbrev pub RefusesFor : Tree → Refusal → Type 0

@@ -1,15 +1,13 @@
 -- What a script's bytes are read as.
-use Rattle.std.specs.Prelude.{◌≡◌, ℕ, true, not, List, Ok, Err}
-use Rattle.std.specs.List.{list_all}
+use Rattle.std.specs.Prelude.{ℕ, List, Ok, Err}
 use Rattle.std.specs.declared.result.Result.{Result}
 use Rattle.script_tree.specs.declared.checked.Checked.{Checked}
 use Rattle.script_tree.specs.declared.fault.Rule.{Rule}
-use Rattle.script_tree.specs.declared.tree.AppDef.{AppDef}
-use Rattle.script_tree.specs.Grammar.{Tree, PlacedTree}
+use Rattle.script_tree.specs.Grammar.{PlacedTree}
 use Rattle.script_tree.specs.Rules.{IsWellFormed, IsCheckFault}
 use Rattle.app_script.specs.Parsing.{IsScriptOf, IsRefusal}
 use Rattle.parsl_engine.specs.declared.script.ScriptRefusal.{ScriptRefusal}
-use Rattle.parsl_engine.specs.declared.script.ScriptRefusal.TheVariants.{Parse, Check, NotYet}
+use Rattle.parsl_engine.specs.declared.script.ScriptRefusal.TheVariants.{Parse, Check}
 use Rattle.parsl_engine.specs.declared.script.ScriptFault.{ScriptFault}
 use Rattle.parsl_engine.specs.declared.script.ScriptFault.TheVariants.{Refused, Limited, NoMemory}
 
@@ -33,16 +31,9 @@ pub record BreaksRule (bytes : List ℕ) (kind : Rule) (place : ℕ) : Type 0 wh
 abbrev pub IsFaulty : List ℕ → ScriptRefusal → Type 0
 IsFaulty bytes (Parse kind place) = IsRefusal bytes kind place
 IsFaulty bytes (Check kind place) = BreaksRule bytes kind place
-IsFaulty bytes NotYet = ⊥
 
 abbrev pub IsRead : List ℕ → Result Checked ScriptFault → Type 0
 IsRead bytes (Ok script) = IsCheckedText bytes script
 IsRead bytes (Err (Refused refusal)) = IsFaulty bytes refusal
 IsRead bytes (Err (Limited limit)) = ⊥
 IsRead bytes (Err NoMemory) = Unit {0}
-
--- ---- scripts that can be run
-
--- it has no cached apps
-abbrev pub IsUncached : Tree → Type 0
-IsUncached tree = list_all (λ (app : AppDef). not app.cached) tree.0 ≡ true

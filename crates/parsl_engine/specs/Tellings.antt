@@ -1,5 +1,5 @@
 -- What a run tells the monitors.
-use Rattle.std.specs.Prelude.{◌≡◌, List, map, All, Option, None, Some}
+use Rattle.std.specs.Prelude.{◌≡◌, List, map, All, Option, Some}
 use Rattle.std.specs.List.{filter}
 use Rattle.script_tree.specs.Grammar.{Tree}
 use Rattle.event_log.specs.declared.entry.Entry.{Entry}

@@ -108,7 +108,6 @@ fn tell_refusal<E: Sink>(refusal: ScriptRefusal, err: &mut E) -> Result<(), Fail
         ScriptRefusal::Check { kind, place } => {
             tell_fault(b"parsl: script: check ", kind.number(), place, err)
         }
-        ScriptRefusal::NotYet => write_whole(err, b"parsl: script: not yet\n"),
     }
 }
 

@@ -8,7 +8,7 @@ ghost use Rattle.parsl_engine.specs.Words.{is_plain};
 ghost use Rattle.parsl_engine.specs.declared.words.Command.TheVariants.{Run, Seq};
 
 use crate::run::{PartEnd, RunEnd, run_alone};
-use crate::script::{ScriptFault, ScriptRefusal, is_uncached, read_script};
+use crate::script::{ScriptFault, read_script};
 use crate::words::Command;
 use compiled_script::CompiledScript;
 use dependency_graph::Monitor;
@@ -79,9 +79,6 @@ fn report_output<M: Monitor>(
     requires { IsOfText script }
     ensures { Gives Run script result (map M.told monitors.old.items) (map M.told monitors.new.items) }
 {
-    if !is_uncached(&script) {
-        return Err(ScriptFault::Refused(ScriptRefusal::NotYet));
-    }
     let Ok(script) = Arc::new(alloc, script) else {
         return Err(ScriptFault::NoMemory);
     };
@@ -118,9 +115,6 @@ fn head_output(alloc: Global, script: Checked) -> Result<Output, ScriptFault>
     requires { IsOfText script }
     ensures { (told : Ledgers) → Gives Seq script result told told }
 {
-    if !is_uncached(&script) {
-        return Err(ScriptFault::Refused(ScriptRefusal::NotYet));
-    }
     let script = compiled(alloc, script)?;
     match evaluate(alloc, &script, &Losses::new(alloc)) {
         Ok(evaluation) => Ok(Output {

@@ -35,8 +35,8 @@ pub struct RunEnd<M: Monitor> {
     pub monitors: Vec<M>,
 }
 
-/// Runs a script to its end: turns of main, callbacks, attempts and settlings as they come. Each monitor is told
-/// of each settlement.
+/// Runs a script to its end: turns of main, callbacks, attempts, stores and settlings as they come. Each monitor
+/// is told of each settlement.
 pub fn run_alone<M: Monitor>(alloc: Global, opening: Opening, monitors: Vec<M>) -> RunEnd<M>
     requires { length (arc_value opening.script).tree.0 < 2 ^ 32 }
     ensures run { IsRun (arc_value opening.script).tree result.end result.evaluation result.history }
@@ -110,6 +110,10 @@ fn round<M: Monitor>(alloc: Global, kernel: &mut Kernel<M>) -> Result<(), Refusa
         return Ok(());
     }
     if run_attempt(alloc, kernel)? {
+        kernel.facts();
+        return Ok(());
+    }
+    if kernel.store_turn()? {
         kernel.facts();
         return Ok(());
     }

@@ -1,14 +1,11 @@
 //! Scripts that are read and checked.
 
-ghost use Rattle.std.specs.Prelude.{◌≡◌, IsTrue, ◌↔◌, not};
-ghost use Rattle.std.specs.List.{list_all};
-ghost use Rattle.parsl_engine.specs.Scripts.{IsRead, IsUncached};
+ghost use Rattle.parsl_engine.specs.Scripts.{IsRead};
 
 use app_check::{CheckFault, check};
 use app_script::parse::{ParseFault, parse};
 use script_tree::checked::Checked;
 use script_tree::fault::{Rule, SyntaxFault};
-use script_tree::tree::AppDef;
 use std::alloc::{AllocError, Global};
 use stored_units::Limit;
 
@@ -19,8 +16,6 @@ pub enum ScriptRefusal {
     Parse { kind: SyntaxFault, place: u32 },
     /// The script breaks this rule at this place.
     Check { kind: Rule, place: u32 },
-    /// The script has a cached app, and can't be run yet.
-    NotYet,
 }
 
 /// Why a command has no output.
@@ -63,17 +58,4 @@ pub fn read_script(alloc: Global, bytes: &[u8]) -> Result<Checked, ScriptFault>
         }
         Err(CheckFault::NoMemory) => Err(ScriptFault::NoMemory),
     }
-}
-
-/// Whether it has no cached apps.
-pub fn is_uncached(script: &Checked) -> bool
-    ensures { IsTrue result ↔ IsUncached script.now.tree }
-{
-    are_uncached(script.script().apps())
-}
-
-fn are_uncached(apps: &[AppDef]) -> bool
-    ensures { result ≡ list_all (λ app. not app.cached) apps.now }
-{
-    apps.iter().all(|app| !app.cached)
 }

@@ -8,6 +8,8 @@ mod joins;
 #[cfg(test)]
 mod limits;
 #[cfg(test)]
+mod memo;
+#[cfg(test)]
 mod monitors;
 #[cfg(test)]
 mod runs;

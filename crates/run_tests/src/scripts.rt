@@ -419,24 +419,3 @@ fn a_cached_app_has_at_most_16384_bytes(rt: HostRuntime) -> Result<(), Fail> {
     }
     Ok(())
 }
-
-#[test]
-fn a_script_with_a_cached_app_is_not_run_yet(rt: HostRuntime) -> Result<(), Fail> {
-    for script in [
-        b"cached app f() { return 1; } main { }".as_slice(),
-        b"cached app f() { return 1; } main { call f(); }",
-        b"cached app g() { return 1; } join app f() { return call g(); } main { print 1; }",
-    ] {
-        for command in ["run", "seq"] {
-            let answer = call(rt.alloc(), &[command, "s"], script, 1000)?;
-            assert_eq!(rt; answer.status, 3, "{command} {script:?}");
-            assert_eq!(rt; answer.out.bytes(), b"".as_slice(), "{command} {script:?}");
-            assert_eq!(rt;
-                answer.err.bytes(),
-                b"parsl: script: not yet\n".as_slice(),
-                "{command} {script:?}"
-            );
-        }
-    }
-    Ok(())
-}

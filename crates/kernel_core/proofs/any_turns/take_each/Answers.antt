@@ -27,3 +27,6 @@ loop-turn-init g c = record {
   tells = no-turn-tells c.args.kernel.now;
   took = λ v h. subst (λ (turns : List Turn). Took turns c.args.kernel.now v) c.into_iter-turn-iterator.ensures.into_iter_gives.0 h;
 }
+
+pub returns-in_err-take_turn-clause-tells : goal.returns-in_err-take_turn-clause-tells
+returns-in_err-take_turn-clause-tells g c = told-longer _ c.loop-turn.kernel _ c.loop-turn.invariant.tells (going_accepts c.loop-turn.kernel (sym c.if-ended.ensures)) c.take_turn.ensures.tells

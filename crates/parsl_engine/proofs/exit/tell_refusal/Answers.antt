@@ -10,6 +10,3 @@ pub returns-in-Check : goal.returns-in-Check
 returns-in-Check g c =
     let told = rw c.number-in-Check.ensures at c.tell_fault-in-Check.ensures in
     refused-told g.E.Sink.tells _ _ _ _ c.in-Check.is told
-
-pub returns-in-NotYet : goal.returns-in-NotYet
-returns-in-NotYet g c = refused-told g.E.Sink.tells _ _ _ _ c.in-NotYet.is c.write_whole.ensures.unless_failed

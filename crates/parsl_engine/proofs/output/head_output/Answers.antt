@@ -18,7 +18,6 @@ returns-in-Ok c =
     let of = subst (λ (p : PlacedTree). (limit_met (without_losses p.tree) ≡ None) × (c.in-Ok.evaluation ≡ evaluation p.tree)) c.in_ok-script.ensures met in
     λ told. (
       record {
-        uncached = c.is_uncached.ensures.0 c.if-not-is_uncached.false;
         within = of.0;
         head = c.in_ok-head-in-Ok.ensures ∙ ap head_text of.1;
         raised_is = c.has_raised.ensures ∙ ap (λ (e : Evaluation). is_raised e.main) of.1;

@@ -14,7 +14,6 @@ run_alone-run-requires g c =
 
 pub returns : goal.returns
 returns g c =
-    let uncached = c.is_uncached.ensures.0 c.if-not-is_uncached.false in
     let ran = c.run_alone-run.result in
     let run = subst (λ (p : PlacedTree). IsRun p.tree ran.end ran.evaluation ran.history) c.in-Ok.ensures.ok c.run_alone-run.ensures.run in
     let told = map g.M.Monitor.told c.args.monitors.now.items in
@@ -25,4 +24,4 @@ returns g c =
     let script = c.args.script in
     let names = c.texts_have_names.ensures of.bytes script.tree script.places of.is.text.has in
     let ranges = subst (All InRange) c.as_slice.ensures c.in_range.ensures in
-    run_gives c.args.script ran.end ran.evaluation ran.history c.whole_report-output.result _ _ (λ whole. c.reports_are_read_back.ensures script.tree no_retries c.run_alone-run.result.history of.is.well_formed names whole.legal ranges) uncached run tells c.whole_report-output.ensures
+    run_gives c.args.script ran.end ran.evaluation ran.history c.whole_report-output.result _ _ (λ whole. c.reports_are_read_back.ensures script.tree no_retries c.run_alone-run.result.history of.is.well_formed names whole.legal ranges) run tells c.whole_report-output.ensures

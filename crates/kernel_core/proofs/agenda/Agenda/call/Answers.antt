@@ -11,4 +11,4 @@ overflow_add-self g c =
     omega (arith, room)
 
 pub returns-clause-serves : goal.returns-clause-serves
-returns-clause-serves g c = call-serves _ _ _ c.args.state.now c.call.new.self c.args.app c.args.arguments c.args.names c.self.view_is c.facts.ensures.fact c.facts-2.ensures c.requires.asks c.requires.serves c.in_ok-future.ensures.ok c.in_ok-future.ensures.added refl refl refl refl
+returns-clause-serves g c = call-serves _ _ _ c.args.state.now c.call.new.self c.args.app c.args.arguments c.args.names c.self.view_is c.facts.ensures.fact c.facts-2.ensures c.requires.asks c.requires.serves c.in_ok-future.ensures.ok c.in_ok-future.ensures.added refl refl refl refl refl

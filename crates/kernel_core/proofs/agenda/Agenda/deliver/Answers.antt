@@ -25,4 +25,4 @@ returns-clause-serves g c =
     let ended : c.outcome_of.result ≡ outcome_of c.args.done.ended = c.outcome_of.ensures ∙ ap (λ (d : DoneView). outcome_of d.ended) c.done.view_is in
     let runs = subst (λ (j : JobView). IsRunning c.args.state.now j c.in-Some.k) job c.in-Some.ensures in
     let can = subst (CanFinish c.args.state.now c.in-Some.k) (sym ended) (can-finish c.args.state.now c.args.done c.in-Some.k c.facts.ensures.fact.inv c.requires.going c.requires.end runs) in
-    finished-serves _ _ _ c.args.state.now c.finish.new.self c.in-Some.k c.outcome_of.result c.self.view_is c.facts.ensures.fact can c.requires.serves c.finish.ensures refl refl c.push_back_reserved.ensures.items (omega (arith, c.push_back_reserved.ensures.len, c.push_back_reserved.ensures.capacity)) refl
+    finished-serves _ _ _ c.args.state.now c.finish.new.self c.in-Some.k c.outcome_of.result c.self.view_is c.facts.ensures.fact can c.requires.serves c.finish.ensures refl refl c.push_back_reserved.ensures.items refl (omega (arith, c.push_back_reserved.ensures.len, c.push_back_reserved.ensures.capacity)) refl

@@ -26,4 +26,4 @@ pub returns-clause-ok : goal.returns-clause-ok
 returns-clause-ok g c = join-seen c.args.state.now c.args.k c.args.values c.requires.can c.args.self.now.graph.told c.run_join.new.graph.told c.run_join.new.self c.in_ok-run_join.ensures.ok (c.run_join.ensures.told ∙ ap (λ (a : AgendaView). a.graph.told) c.self.view_is)
 
 pub returns-clause-serves : goal.returns-clause-serves
-returns-clause-serves g c = join-serves c.args.state.now c.args.k c.args.values c.requires.can _ _ c.self.view_is c.facts.ensures.fact c.requires.serves _ c.run_join.new.self c.facts-2.ensures c.in_ok-run_join.ensures.ok c.in_ok-run_join.ensures.stored refl refl refl (omega (arith, c.len.ensures, c.len-before.ensures))
+returns-clause-serves g c = join-serves c.args.state.now c.args.k c.args.values c.requires.can _ _ c.self.view_is c.facts.ensures.fact c.requires.serves _ c.run_join.new.self c.facts-2.ensures c.in_ok-run_join.ensures.ok c.in_ok-run_join.ensures.stored refl refl refl refl (omega (arith, c.len.ensures, c.len-before.ensures))

@@ -6,4 +6,4 @@ use Rattle.kernel_core.proofs.run_state.RunState.arrive.Goals as goal
 pub invariant_of-self : goal.invariant_of-self
 invariant_of-self c =
     let k = c.self.inside in
-    (arrive-sound k.script.tree k.tasks.items k.steps.items k.arrived k.ending k.log.items k.refusal [] k.running k.stored c.self.invariant.0, indexed-same _ _ c.self.inside.places c.self.inside.mains c.self.invariant.1 refl refl, c.self.invariant.2)
+    (arrive-sound k.script.tree k.tasks.items k.steps.items k.arrived k.ending k.memo k.log.items k.refusal [] k.running k.stored c.self.invariant.0, indexed-same _ _ c.self.inside.places c.self.inside.mains c.self.invariant.1 refl refl, c.self.invariant.2, c.self.invariant.3)

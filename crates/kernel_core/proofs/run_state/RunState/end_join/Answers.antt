@@ -30,7 +30,7 @@ invariant_of-self-2 g c =
     let a = end-keeps _ _ c.self.inside.tasks.items c.self.inside.steps.items c.self.inside.log.items c.reserve.new.self.items c.push_reserved.new.self.items c.self.inside.running c.self.inside.stored c.outcome_units-units.result c.args.k
     c.index_mut.result.now c.index-2.result.now c.index_mut-2.result.now c.finish.new.self c.in_ok-path.path c.in_ok-outcome.outcome c.status_of-status.result
     c.self.view_is refl (record { is = refl; sound = c.self.invariant.0 }) c.requires.over c.index_mut.ensures.value c.finish.ensures c.index-2.ensures (c.in_ok-path.ensures ∙ c.path.ensures) c.index_mut-2.ensures.value s c.status_of-status.ensures c.outcome_units-units.ensures c.if-units-self.false c.in_ok-reserve.ensures.items c.push_reserved.ensures.items in
-    (a.sound, indexed-behind _ c.args.self.now (settled_as c.args.self.now c.args.k c.in_ok-outcome.outcome) _ c.self.inside.places c.self.inside.mains c.self.view_is c.self.invariant.1 refl refl a.view, omega (arith, c.in_ok-reserve.ensures.ok, c.push_reserved.ensures.len, c.push_reserved.ensures.capacity))
+    (a.sound, indexed-behind _ c.args.self.now (settled_as c.args.self.now c.args.k c.in_ok-outcome.outcome) _ c.self.inside.places c.self.inside.mains c.self.view_is c.self.invariant.1 refl refl a.view, c.self.invariant.2, omega (arith, c.in_ok-reserve.ensures.ok, c.push_reserved.ensures.len, c.push_reserved.ensures.capacity))
 
 pub returns-clause-ok : goal.returns-clause-ok
 returns-clause-ok g c =

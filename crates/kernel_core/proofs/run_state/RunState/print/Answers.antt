@@ -6,4 +6,4 @@ use Rattle.kernel_core.proofs.run_state.RunState.print.Goals as goal
 pub invariant_of-self-2 : goal.invariant_of-self-2
 invariant_of-self-2 c =
     let k = c.self.inside in
-    (rw (c.push_reserved.ensures.items, c.in_ok-reserve.ensures.items) (print-sound _ k.script.tree k.tasks.items k.steps.items k.arrived k.ending k.log.items k.refusal [] k.running k.stored c.size-units.result c.args.value c.self.invariant.0 c.self.view_is c.requires c.size-units.ensures c.if-units-self.false), indexed-same _ _ c.self.inside.places c.self.inside.mains c.self.invariant.1 refl refl, c.self.invariant.2)
+    (rw (c.push_reserved.ensures.items, c.in_ok-reserve.ensures.items) (print-sound _ k.script.tree k.tasks.items k.steps.items k.arrived k.ending k.memo k.log.items k.refusal [] k.running k.stored c.size-units.result c.args.value c.self.invariant.0 c.self.view_is c.requires c.size-units.ensures c.if-units-self.false), indexed-same _ _ c.self.inside.places c.self.inside.mains c.self.invariant.1 refl refl, c.self.invariant.2, c.self.invariant.3)

@@ -12,12 +12,12 @@ use Rattle.kernel_core.proofs.run_state.RunState.settle.Goals as goal
 
 pub returns-then-units-self-clause-refused : goal.returns-then-units-self-clause-refused
 returns-then-units-self-clause-refused g c = settle-refused _ _ c.self.inside.tasks.items c.self.inside.steps.items c.self.inside.log.items c.self.inside.running c.self.inside.stored c.outcome_units-units.result c.args.k c.index.result.now c.in-Some.outcome
-    c.self.view_is (record { is = refl; sound = c.self.invariant.0 }) c.requires.over c.index.ensures c.in-Some.is c.outcome_units-units.ensures c.if-units-self.true
+    c.self.view_is (record { is = refl; sound = c.self.invariant.0 }) c.requires.over c.requires.kept c.index.ensures c.in-Some.is c.outcome_units-units.ensures c.if-units-self.true
 
 pub invariant_of-self-in_err-path-2 : goal.invariant_of-self-in_err-path-2
 invariant_of-self-in_err-path-2 g c =
     let same = end-same c.self.inside.tasks.items c.args.k c.index_mut.result.now c.tell_end.new.end c.index_mut.ensures.value c.in_err-path-2.ensures.same in
-    rw (same, c.in_ok-reserve.ensures.items) (c.self.invariant.0, c.self.invariant.1, omega (arith, c.self.invariant.2, c.in_ok-reserve.ensures.len, c.in_ok-reserve.ensures.ok, c.in_ok-reserve.ensures.capacity))
+    rw (same, c.in_ok-reserve.ensures.items) (c.self.invariant.0, c.self.invariant.1, c.self.invariant.2, omega (arith, c.self.invariant.3, c.in_ok-reserve.ensures.len, c.in_ok-reserve.ensures.ok, c.in_ok-reserve.ensures.capacity))
 
 pub returns-in_err-path-2-clause-told : goal.returns-in_err-path-2-clause-told
 returns-in_err-path-2-clause-told g c =
@@ -43,15 +43,15 @@ invariant_of-self-2 g c =
     let same = end-same c.self.inside.tasks.items c.args.k c.index_mut.result.now c.tell_end.new.end c.index_mut.ensures.value c.in_ok-path-2.ensures.same in
     let a = settle-writes _ _ c.self.inside.tasks.items _ c.self.inside.steps.items c.self.inside.log.items c.reserve.new.self.items c.push_reserved.new.self.items c.self.inside.running c.self.inside.stored c.outcome_units-units.result c.args.k
     c.index_mut-2.result.now c.index.result.now c.index-2.result.now c.finish.new.self c.in_ok-path-2.path c.in-Some.outcome c.status_of-status.result
-    c.self.view_is refl same (record { is = refl; sound = c.self.invariant.0 }) c.requires.over c.index_mut-2.ensures.value c.finish.ensures c.index-2.ensures (c.in_ok-path-2.ensures.path ∙ c.in_ok-path.ensures ∙ c.path.ensures) c.index.ensures c.in-Some.is c.status_of-status.ensures c.outcome_units-units.ensures c.if-units-self.false c.in_ok-reserve.ensures.items c.push_reserved.ensures.items in
-    (a.sound, indexed-behind _ c.args.self.now (settled_as c.args.self.now c.args.k c.in-Some.outcome) _ c.self.inside.places c.self.inside.mains c.self.view_is c.self.invariant.1 refl refl a.view, omega (arith, c.in_ok-reserve.ensures.ok, c.push_reserved.ensures.len, c.push_reserved.ensures.capacity))
+    c.self.view_is refl same (record { is = refl; sound = c.self.invariant.0 }) c.requires.over c.requires.kept c.index_mut-2.ensures.value c.finish.ensures c.index-2.ensures (c.in_ok-path-2.ensures.path ∙ c.in_ok-path.ensures ∙ c.path.ensures) c.index.ensures c.in-Some.is c.status_of-status.ensures c.outcome_units-units.ensures c.if-units-self.false c.in_ok-reserve.ensures.items c.push_reserved.ensures.items in
+    (a.sound, indexed-behind _ c.args.self.now (settled_as c.args.self.now c.args.k c.in-Some.outcome) _ c.self.inside.places c.self.inside.mains c.self.view_is c.self.invariant.1 refl refl a.view, c.self.invariant.2, omega (arith, c.in_ok-reserve.ensures.ok, c.push_reserved.ensures.len, c.push_reserved.ensures.capacity))
 
 pub returns-clause-ok : goal.returns-clause-ok
 returns-clause-ok g c outcome ends =
     let same = end-same c.self.inside.tasks.items c.args.k c.index_mut.result.now c.tell_end.new.end c.index_mut.ensures.value c.in_ok-path-2.ensures.same in
     let a = settle-writes _ _ c.self.inside.tasks.items _ c.self.inside.steps.items c.self.inside.log.items c.reserve.new.self.items c.push_reserved.new.self.items c.self.inside.running c.self.inside.stored c.outcome_units-units.result c.args.k
     c.index_mut-2.result.now c.index.result.now c.index-2.result.now c.finish.new.self c.in_ok-path-2.path c.in-Some.outcome c.status_of-status.result
-    c.self.view_is refl same (record { is = refl; sound = c.self.invariant.0 }) c.requires.over c.index_mut-2.ensures.value c.finish.ensures c.index-2.ensures (c.in_ok-path-2.ensures.path ∙ c.in_ok-path.ensures ∙ c.path.ensures) c.index.ensures c.in-Some.is c.status_of-status.ensures c.outcome_units-units.ensures c.if-units-self.false c.in_ok-reserve.ensures.items c.push_reserved.ensures.items in
+    c.self.view_is refl same (record { is = refl; sound = c.self.invariant.0 }) c.requires.over c.requires.kept c.index_mut-2.ensures.value c.finish.ensures c.index-2.ensures (c.in_ok-path-2.ensures.path ∙ c.in_ok-path.ensures ∙ c.path.ensures) c.index.ensures c.in-Some.is c.status_of-status.ensures c.outcome_units-units.ensures c.if-units-self.false c.in_ok-reserve.ensures.items c.push_reserved.ensures.items in
     let found = settle-found _ _ c.self.inside.tasks.items c.self.inside.steps.items c.self.inside.log.items c.self.inside.running c.self.inside.stored c.args.k c.index.result.now c.in-Some.outcome outcome c.self.view_is (record { is = refl; sound = c.self.invariant.0 }) c.requires.over c.index.ensures c.in-Some.is ends in
     a.view ∙ ap (λ (o : Outcome). settled_as c.args.self.now c.args.k o) found
 

@@ -16,7 +16,8 @@ pub invariant_of-self-in_err-add : goal.invariant_of-self-in_err-add
 invariant_of-self-in_err-add c = (
   rw (c.in_ok-reserve.ensures.items, c.in_ok-reserve-2.ensures.items, c.in_ok-reserve-3.ensures.items) c.self.invariant.0,
   rw (c.in_err-add.ensures.err, c.in_ok-reserve.ensures.items, c.in_ok-reserve-2.ensures.items, c.in_ok-reserve-3.ensures.items) c.self.invariant.1,
-  omega (arith, c.in_ok-reserve-3.ensures.ok, c.in_ok-reserve-3.ensures.len, c.self.invariant.2),
+  c.self.invariant.2,
+  omega (arith, c.in_ok-reserve-3.ensures.ok, c.in_ok-reserve-3.ensures.len, c.self.invariant.3),
 )
 
 pub add-requires : goal.add-requires
@@ -39,11 +40,12 @@ invariant_of-self-2 c =
       copied = c.in_ok-submitted.ensures;
       named = rw (← c.script.ensures.script, ← c.apps.ensures.apps) c.in_ok-name.ensures;
     } in
-    let view = submit-view _ k.script.tree k.tasks.items k.steps.items k.arrived k.ending k.log.items k.refusal [] k.running k.stored c.args.units c.args.app c.args.arguments c.args.names c.args.path c.len-k.result c.pending.new.self c.in_ok-submitted.submitted c.in_ok-name.name c.self.invariant.0 c.self.view_is c.requires.adds writes in (
+    let view = submit-view _ k.script.tree k.tasks.items k.steps.items k.arrived k.ending k.memo k.log.items k.refusal [] k.running k.stored c.args.units c.args.app c.args.arguments c.args.names c.args.path c.len-k.result c.pending.new.self c.in_ok-submitted.submitted c.in_ok-name.name c.self.invariant.0 c.self.view_is c.requires.adds writes in (
       rw (c.push_reserved.ensures.items, c.push_reserved-2.ensures.items, c.push_reserved-3.ensures.items, c.in_ok-reserve.ensures.items, c.in_ok-reserve-2.ensures.items, c.in_ok-reserve-3.ensures.items)
-          (submit-sound _ k.script.tree k.tasks.items k.steps.items k.arrived k.ending k.log.items k.refusal [] k.running k.stored c.args.units c.args.app c.args.arguments c.args.names c.args.path c.len-k.result c.pending.new.self c.in_ok-submitted.submitted c.in_ok-name.name c.self.invariant.0 c.self.view_is c.requires.asks c.requires.adds writes),
+          (submit-sound _ k.script.tree k.tasks.items k.steps.items k.arrived k.ending k.memo k.log.items k.refusal [] k.running k.stored c.args.units c.args.app c.args.arguments c.args.names c.args.path c.len-k.result c.pending.new.self c.in_ok-submitted.submitted c.in_ok-name.name c.self.invariant.0 c.self.view_is c.requires.asks c.requires.adds writes),
       rw (c.push_reserved.ensures.items, c.push_reserved-2.ensures.items, c.push_reserved-3.ensures.items, c.in_ok-reserve.ensures.items, c.in_ok-reserve-2.ensures.items, c.in_ok-reserve-3.ensures.items)
           (submit-indexed _ c.args.self.now _ k.places c.add.new.self k.mains c.args.units c.args.app c.args.arguments c.args.names c.args.path c.self.view_is c.self.invariant.1 c.requires.adds c.in_ok-add.ensures.added view),
+      c.self.invariant.2,
       omega (arith, c.in_ok-reserve-3.ensures.ok),
     )
 
@@ -57,4 +59,4 @@ returns-clause-ok c =
       named = rw (← c.script.ensures.script, ← c.apps.ensures.apps) c.in_ok-name.ensures;
     } in
     rw (c.push_reserved.ensures.items, c.push_reserved-2.ensures.items, c.push_reserved-3.ensures.items, c.in_ok-reserve.ensures.items, c.in_ok-reserve-2.ensures.items, c.in_ok-reserve-3.ensures.items)
-    (submit-view _ k.script.tree k.tasks.items k.steps.items k.arrived k.ending k.log.items k.refusal [] k.running k.stored c.args.units c.args.app c.args.arguments c.args.names c.args.path c.len-k.result c.pending.new.self c.in_ok-submitted.submitted c.in_ok-name.name c.self.invariant.0 c.self.view_is c.requires.adds writes)
+    (submit-view _ k.script.tree k.tasks.items k.steps.items k.arrived k.ending k.memo k.log.items k.refusal [] k.running k.stored c.args.units c.args.app c.args.arguments c.args.names c.args.path c.len-k.result c.pending.new.self c.in_ok-submitted.submitted c.in_ok-name.name c.self.invariant.0 c.self.view_is c.requires.adds writes)

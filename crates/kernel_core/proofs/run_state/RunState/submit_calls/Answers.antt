@@ -23,7 +23,8 @@ pub invariant_of-self-in_err-add_paths : goal.invariant_of-self-in_err-add_paths
 invariant_of-self-in_err-add_paths c = (
   rw (c.in_ok-reserve.ensures.items, c.in_ok-reserve-2.ensures.items) c.self.invariant.0,
   rw (c.in_err-add_paths.ensures.err, c.in_ok-reserve.ensures.items, c.in_ok-reserve-2.ensures.items) c.self.invariant.1,
-  omega (arith, c.in_ok-reserve-2.ensures.ok, c.in_ok-reserve-2.ensures.len, c.self.invariant.2),
+  c.self.invariant.2,
+  omega (arith, c.in_ok-reserve-2.ensures.ok, c.in_ok-reserve-2.ensures.len, c.self.invariant.3),
 )
 
 pub returns-in_err-add_paths-clause-err : goal.returns-in_err-add_paths-clause-err
@@ -38,7 +39,7 @@ invariant_of-self-2 c =
     c.in_ok-tasks.ensures c.append_reserved.ensures.items
     (rw (← c.script.ensures.script, ← c.apps.ensures.apps, ← c.as_slice.ensures.value) c.in_ok-entries.ensures) c.in_ok-reserve-2.ensures.items c.append_reserved-2.ensures.items
     (rw (← c.as_slice-2.ensures.value) c.in_ok-add_paths.ensures.ok) in
-    (a.wrote.sound, a.indexed, omega (arith, c.in_ok-reserve-2.ensures.ok, c.len-2.ensures, c.append_reserved-2.ensures.len, c.append_reserved-2.ensures.capacity))
+    (a.wrote.sound, a.indexed, c.self.invariant.2, omega (arith, c.in_ok-reserve-2.ensures.ok, c.len-2.ensures, c.append_reserved-2.ensures.len, c.append_reserved-2.ensures.capacity))
 
 pub returns-clause-ok : goal.returns-clause-ok
 returns-clause-ok c =
